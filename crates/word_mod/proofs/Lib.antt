@@ -1,0 +1,4 @@
+pub mod Remainder
+pub mod Reciprocal
+pub mod Euclid
+pub mod Power

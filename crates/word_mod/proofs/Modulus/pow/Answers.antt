@@ -1,0 +1,14 @@
+use Rattle.std.proofs.Common.{arith, ◌∙◌}
+use Rattle.word_mod.proofs.Power.{even_step, odd_step}
+use Rattle.word_mod.proofs.Modulus.pow.Goals as goal
+use Rattle.word_mod.proofs.Modulus.pow.Goals.{then-left-eq1, else-left-eq1}
+
+pub loop-left-preserved : goal.loop-left-preserved
+loop-left-preserved c = record {
+  power_below = elim c.if-left-eq1.branch [ then-left-eq1 w ↦ omega arith | else-left-eq1 w ↦ omega arith ];
+  square_below = c.mul-square.ensures.below;
+  whole = elim c.if-left-eq1.branch [
+    | then-left-eq1 w ↦ rw (w.power-is, c.mul-square.ensures.value, w.mul-power.ensures.value) (odd_step c.args.self.now c.loop-left.power c.loop-left.square c.loop-left.left (omega arith) ∙ c.loop-left.invariant.whole)
+    | else-left-eq1 w ↦ rw (w.power-is, c.mul-square.ensures.value) (even_step c.args.self.now c.loop-left.power c.loop-left.square c.loop-left.left (omega arith) ∙ c.loop-left.invariant.whole)
+  ];
+}

@@ -1,0 +1,45 @@
+-- Remainders, by the multiples of the modulus that two numbers differ by.
+use Rattle.std.proofs.Common.{◌≡◌, ℕ, ◌+◌, ◌-◌, ◌*◌, ◌/◌, ◌%◌, ◌<◌, ◌≤◌, sym, ap, ◌∙◌, arith}
+use Rattle.std.proofs.lemmas.Nat.{mod-mul-add}
+use Rattle.std.proofs.Math.Nat.{add-mul-mod_self_right, mod-eq_of_lt, mod-eq-sub-mod}
+
+-- numbers that differ by multiples of q have one remainder
+pub same_remainder : (q x y k l : ℕ) → x + k * q ≡ y + l * q → x % q ≡ y % q
+same_remainder q x y k l e =
+    sym (add-mul-mod_self_right x k q) ∙ ap (λ (z : ℕ). z % q) e ∙ add-mul-mod_self_right y l q
+
+-- numbers with one remainder differ by multiples of q
+pub multiples_apart : (q x y : ℕ) → x % q ≡ y % q → x + y / q * q ≡ y + x / q * q
+multiples_apart q x y e =
+    let split_x : x ≡ x / q * q + x % q = omega arith in
+    let split_y : y ≡ y / q * q + y % q = omega arith in
+    omega arith
+
+-- the remainder by a quotient that leaves less than q
+pub remainder_at : (a k q : ℕ) → k * q ≤ a → a - k * q < q → a - k * q ≡ a % q
+remainder_at a k q le lt =
+    let split : a ≡ k * q + (a - k * q) = omega arith in
+    sym (ap (λ (x : ℕ). x % q) split ∙ mod-mul-add k q (a - k * q) lt)
+
+-- the remainder by a quotient that is one too small
+pub remainder_past : (a k q : ℕ) → k * q ≤ a → q ≤ a - k * q → a < (k + 2) * q → a - k * q - q ≡ a % q
+remainder_past a k q le ge lt =
+    let split : a ≡ (k + 1) * q + (a - k * q - q) = omega arith in
+    sym (ap (λ (x : ℕ). x % q) split ∙ mod-mul-add (k + 1) q (a - k * q - q) (omega arith))
+
+-- the remainder of a number from q to below 2 * q that stands for z
+pub remainder_less : (q y z : ℕ) → y % q ≡ z % q → y < 2 * q → q ≤ y → y - q ≡ z % q
+remainder_less q y z e lt ge =
+    let less : y % q ≡ (y - q) % q = mod-eq-sub-mod ge in
+    let small : (y - q) % q ≡ y - q = mod-eq_of_lt (omega arith) in
+    omega arith
+
+-- a difference of words that wrapped is right where it is a word
+pub unwrapped : (W x y : ℕ) → 0 < W → y ≤ x → x - y < W → (x % W + (W - y % W)) % W ≡ x - y
+unwrapped W x y pos le lt =
+    let split_x : x ≡ x / W * W + x % W = omega arith in
+    let split_y : y ≡ y / W * W + y % W = omega arith in
+    let below : y % W < W = omega arith in
+    let same : (x % W + (W - y % W)) % W ≡ (x - y) % W =
+    same_remainder W (x % W + (W - y % W)) (x - y) (x / W) (y / W + 1) (omega arith) in
+    same ∙ mod-eq_of_lt lt
