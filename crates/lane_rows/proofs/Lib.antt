@@ -1,0 +1,6 @@
+pub mod ButterflyLemmas
+pub mod HighProduct
+pub mod LaneLists
+pub mod Residues
+pub mod Shoup
+pub mod Stores

@@ -1,0 +1,3 @@
+pub mod Butterflies
+pub mod Lanes
+pub mod Rows

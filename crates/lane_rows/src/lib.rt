@@ -1,0 +1,16 @@
+//! Arithmetic on rows of residues, for the number-theoretic transform and what stands on it.
+//!
+//! A row is a slice of words of any length, each a residue modulo one modulus q. Whole chunks of a row go
+//! through vector lanes, and the words past the last whole chunk through the same arithmetic word by word.
+//! All moduli are below 2^61, so that words below 4q can be added.
+#![tactic(auto)]
+
+mod lanes;
+mod pairs;
+mod rows;
+#[cfg(test)]
+mod tests;
+mod words;
+
+pub use pairs::{butterflies, butterflies_back};
+pub use rows::{add_row, fold_row, neg_row, scale_row, sub_row};
