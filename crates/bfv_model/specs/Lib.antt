@@ -1,0 +1,11 @@
+pub mod Bytes
+pub mod Limit
+pub mod FileText
+pub mod FileTests
+pub mod Slots
+pub mod Holds
+pub mod Conversions
+pub mod Keys
+pub mod Plaintexts
+pub mod Drawn
+pub mod NoiseBounds
