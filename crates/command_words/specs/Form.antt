@@ -1,0 +1,31 @@
+-- The forms of a command's words.
+use Rattle.std.specs.Prelude.{◌≡◌, ◌⊎◌, ℕ, Bool, List, [], ◌∷◌, Option, Some, None, length, ◌==◌, codes, if◌then◌else◌}
+use Rattle.std.specs.Str.{bytes_eq}
+use Rattle.std.specs.List.{list_any}
+use Rattle.command_words.specs.declared.form.Form.{Form}
+use Rattle.command_words.specs.declared.form.Form.TheVariants.{Decrypt}
+
+-- one of the words is empty
+abbrev pub has_empty_word : List (List ℕ) → Bool
+has_empty_word words = list_any (λ word. length word == 0) words
+
+-- the form that words have by the first of them and by their number, where none is empty
+abbrev pub form_of_full_words : List (List ℕ) → Option Form
+form_of_full_words (command ∷ secret ∷ cipher ∷ out ∷ []) = if bytes_eq command (codes "decrypt") then Some Decrypt else None
+form_of_full_words _ = None
+
+-- the form of words
+abbrev pub form_of : List (List ℕ) → Option Form
+form_of words = if has_empty_word words then None else form_of_full_words words
+
+-- how many words a form has
+abbrev pub word_count : Form → ℕ
+word_count Decrypt = 4
+
+-- the numbers of the words that name the files a form reads
+abbrev pub IsOperand : Form → ℕ → Type 0
+IsOperand Decrypt word = (word ≡ 1) ⊎ (word ≡ 2)
+
+-- the number of the word that names the file OUT, which a form writes
+abbrev pub out_word : Form → ℕ
+out_word Decrypt = 3

@@ -1,0 +1,11 @@
+//! The words of a command line and the answers to them: which forms words have, what each status
+//! means as a number and as a printed line.
+#![tactic(auto)]
+
+mod form;
+mod line;
+mod status;
+
+pub use form::{Form, form_of};
+pub use line::put_line;
+pub use status::Status;

@@ -1,0 +1,63 @@
+// How a command ends.
+ghost use Rattle.std.specs.Prelude.{◌≡◌};
+ghost use Rattle.command_words.specs.Status.{parts_of};
+
+/// How a command ended. A `word` is the number of the word of a file operand, counted from 0.
+#[derive(Clone, Copy, Debug, PartialEq, Eq)]
+pub enum Status {
+    Done,
+    /// The words have none of the forms.
+    Usage,
+    /// Memory was wanting. This answer may come at any point before a file changes.
+    Memory,
+    /// A file could not be read.
+    ReadFault { word: u32 },
+    /// The file OUT could not be written.
+    WriteFault,
+    MissingFile { word: u32 },
+    /// A file isn't the text of a key or a ciphertext that this command takes.
+    NotOurs { word: u32 },
+}
+
+impl Status {
+    /// The exit status of a program that ends so.
+    pub fn code(&self) -> u8
+        ensures { result ≡ (parts_of self.now).code }
+    {
+        match self {
+            Status::Done => 0,
+            Status::Usage => 2,
+            Status::Memory => 3,
+            Status::ReadFault { .. } => 4,
+            Status::WriteFault => 5,
+            Status::MissingFile { .. } => 6,
+            Status::NotOurs { .. } => 7,
+        }
+    }
+
+    /// What the status is called in its line.
+    pub(crate) fn text(&self) -> &'static str
+        ensures { result.now ≡ (parts_of self.now).text }
+    {
+        match self {
+            Status::Done => "done",
+            Status::Usage => "usage",
+            Status::Memory => "memory",
+            Status::ReadFault { .. } => "read fault",
+            Status::WriteFault => "write fault",
+            Status::MissingFile { .. } => "missing file",
+            Status::NotOurs { .. } => "not ours",
+        }
+    }
+
+    /// The word that the status keeps.
+    pub(crate) fn word(&self) -> Option<u32>
+        ensures { result ≡ (parts_of self.now).word }
+    {
+        match *self {
+            Status::ReadFault { word } | Status::MissingFile { word } | Status::NotOurs { word } =>
+                Some(word),
+            Status::Done | Status::Usage | Status::Memory | Status::WriteFault => None,
+        }
+    }
+}
