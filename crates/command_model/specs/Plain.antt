@@ -1,0 +1,127 @@
+-- The plain machine: what files stand for, and what a command does to that. Nothing of noise, residues or keys is in a plain state.
+use Rattle.std.specs.Prelude.{◌≡◌, ℕ, ◌<◌, ◌^◌, Bool, ◌&&◌, ◌==◌, if◌then◌else◌, ℤ, List, length, map, All, Option, Some, None, unwrap_or}
+use Rattle.std.specs.Str.{bytes_eq}
+use Rattle.outer_io.specs.Store.{Files, file}
+use Rattle.set_table.specs.declared.SetName.{SetName}
+use Rattle.set_table.specs.declared.KeyKind.{KeyKind}
+use Rattle.set_table.specs.declared.KeyKind.TheVariants.{Relin, Turn}
+use Rattle.set_table.specs.Sets.{number_of, degree_of, plain_of, data_of, special_of, key_of}
+use Rattle.set_table.specs.Roots.{root_of}
+use Rattle.ring_law.specs.Polynomials.{ring_product, ring_turn}
+use Rattle.bound_num.specs.Bound.{bound_value}
+use Rattle.bfv_model.specs.declared.file_kind.FileKind.{FileKind}
+use Rattle.bfv_model.specs.declared.file_kind.FileKind.TheVariants.{Secret, PublicKey, SwitchKey, Cipher}
+use Rattle.bfv_model.specs.FileText.{FileContent, IsFile}
+use Rattle.bfv_model.specs.Holds.{CipherHolds, stored_word, secret_polynomial}
+use Rattle.bfv_model.specs.Keys.{WordsArePublicKeyOf, WordsAreSwitchKeyOf, stored_key_word}
+use Rattle.ring_law.specs.Rows.{natural_polynomial}
+use Rattle.bfv_model.specs.Slots.{slots_of}
+use Rattle.script_text.specs.Values.{printed_values}
+use Rattle.command_words.specs.Form.{form_of, out_word}
+use Rattle.command_words.specs.Line.{word_at}
+use Rattle.command_words.specs.declared.form.Form.{Form}
+use Rattle.command_words.specs.declared.form.Form.TheVariants.{Decrypt}
+
+-- whose secret: the set, the key id, and the n coefficients as words, with 2 for -1
+pub record Owner : Type 0 where
+  pub set : SetName
+  pub key_id : List ℕ
+  pub secret : List ℕ
+
+abbrev pub same_owner : Owner → Owner → Bool
+same_owner a b = (number_of a.set == number_of b.set) && (bytes_eq a.key_id b.key_id && bytes_eq a.secret b.secret)
+
+-- what a file stands for
+pub data Item : Type 0 where
+  text : (bytes : List ℕ) → Item
+  secret_of : (owner : Owner) → Item
+  public_key_of : (owner : Owner) → Item
+  switch_key_of : (owner : Owner) (kind : KeyKind) (element : ℕ) → Item
+  sealed : (owner : Owner) (values : List ℕ) → Item
+
+-- a plain state: what each name stands for, if anything
+abbrev pub State : Type 0
+State = List ℕ → Option Item
+
+-- the state with the item of one name set, or taken away
+abbrev pub with_item : State → List ℕ → Option Item → State
+with_item state name item = λ other. if bytes_eq other name then item else state other
+
+-- the values that a cipher seals are read with the secret that it was sealed under
+abbrev pub opened : Option Item → Option Item → Option Item
+opened (Some (secret_of owner)) (Some (sealed other values)) = if same_owner owner other then Some (text (printed_values values)) else None
+opened _ _ = None
+
+abbrev pub step_of_form : Option Form → List (List ℕ) → State → State
+step_of_form None words state = state
+step_of_form (Some Decrypt) words state = with_item state (word_at words (out_word Decrypt)) (opened (state (word_at words 1)) (state (word_at words 2)))
+
+-- the state after a command that is done: only the item of the file OUT changes
+abbrev pub step : List (List ℕ) → State → State
+step words state = step_of_form (form_of words) words state
+
+-- n coefficients from -1 to 1
+pub record IsTernary (n : ℕ) (secret : List ℕ) : Type 0 where
+  pub count : length secret ≡ n
+  pub below : All (λ word. word < 3) secret
+
+-- the content is of this kind and of this owner's set and key id, and the owner's secret is ternary
+pub record BelongsTo (owner : Owner) (kind : FileKind) (content : FileContent) : Type 0 where
+  pub is_kind : content.kind ≡ kind
+  pub of_set : content.set ≡ owner.set
+  pub of_key : content.key_id ≡ owner.key_id
+  pub ternary : IsTernary (degree_of owner.set) owner.secret
+
+-- the content is that of the owner's secret
+pub record IsSecretOf (owner : Owner) (content : FileContent) : Type 0 where
+  pub belongs : BelongsTo owner Secret content
+  pub words : content.words ≡ owner.secret
+
+-- the greatest absolute value of an error that is drawn: 21 bits less 21 bits
+abbrev pub greatest_error : ℕ
+greatest_error = 21
+
+-- the content is a public key of the owner's secret
+pub record IsPublicKeyFor (owner : Owner) (content : FileContent) : Type 0 where
+  pub belongs : BelongsTo owner PublicKey content
+  pub words : WordsArePublicKeyOf (degree_of owner.set) (data_of owner.set) greatest_error
+      (stored_word (degree_of owner.set) (length (data_of owner.set)) content.words) (secret_polynomial owner.secret)
+
+-- what a switching key switches from: s^2 for relinearisation, and s(X^element) for a turn
+abbrev pub key_source : KeyKind → ℕ → ℕ → (ℕ → ℤ) → ℕ → ℤ
+key_source Relin n element s = ring_product n s s
+key_source Turn n element s = ring_turn n element s
+
+-- the content is a switching key of this kind and element for the owner's secret
+pub record IsSwitchKeyFor (owner : Owner) (kind : KeyKind) (element : ℕ) (content : FileContent) : Type 0 where
+  pub belongs : BelongsTo owner (SwitchKey kind) content
+  pub of_element : content.element ≡ element
+  pub special : ℕ
+  pub is_special : special_of owner.set ≡ Some special
+  pub log_degree : ℕ
+  pub is_log : 2 ^ log_degree ≡ degree_of owner.set
+  pub words : WordsAreSwitchKeyOf log_degree (data_of owner.set) special
+      (map (λ q. unwrap_or (root_of owner.set q) 0) (key_of owner.set)) greatest_error
+      (stored_key_word (degree_of owner.set) (length (key_of owner.set)) content.words)
+      (key_source kind (degree_of owner.set) element (secret_polynomial owner.secret)) (secret_polynomial owner.secret)
+
+-- the content is a cipher that holds, under the owner's secret and within the bound that it states, the plaintext with these slots
+pub record IsSealed (owner : Owner) (values : List ℕ) (content : FileContent) : Type 0 where
+  pub belongs : BelongsTo owner Cipher content
+  pub plaintext : ℕ → ℕ
+  pub slots : values ≡ slots_of owner.set (natural_polynomial plaintext)
+  pub holds : CipherHolds (degree_of owner.set) (data_of owner.set) (plain_of owner.set)
+      (stored_word (degree_of owner.set) (length (data_of owner.set)) content.words)
+      (secret_polynomial owner.secret) plaintext (bound_value content.mantissa content.exponent)
+
+-- the bytes of a file stand for an item
+abbrev pub IsItem : Item → List ℕ → Type 0
+IsItem (text bytes) held = held ≡ bytes
+IsItem (secret_of owner) held = (content : FileContent) × (IsFile held content × IsSecretOf owner content)
+IsItem (public_key_of owner) held = (content : FileContent) × (IsFile held content × IsPublicKeyFor owner content)
+IsItem (switch_key_of owner kind element) held = (content : FileContent) × (IsFile held content × IsSwitchKeyFor owner kind element content)
+IsItem (sealed owner values) held = (content : FileContent) × (IsFile held content × IsSealed owner values content)
+
+-- the files stand for a plain state: for each name with an item there is a file whose bytes stand for it
+pub record Stands (files : Files) (state : State) : Type 0 where
+  pub each : (name : List ℕ) (item : Item) → state name ≡ Some item → (bytes : List ℕ) × ((file files name ≡ Some bytes) × IsItem item bytes)
