@@ -1,0 +1,9 @@
+pub mod Rows
+pub mod Phases
+pub mod Points
+pub mod FileTests
+pub mod Contents
+pub mod Decrypting
+pub mod Answering
+pub mod Outputs
+pub mod Standing
