@@ -1,0 +1,5 @@
+//! The worked rows of the program: whole commands over a store and a sink in memory.
+#![tactic(auto)]
+
+#[cfg(test)]
+mod decrypt;
