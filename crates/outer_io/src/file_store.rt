@@ -21,8 +21,8 @@ struct Draft<F: Drop> {
 /// The real files, under their paths.
 ///
 /// The pending file is written under its name with `.part` at the end; a user's file of that longer
-/// name is lost. A draft that is dropped leaves its part where it is. A folder is no file: to ask
-/// for its size fails.
+/// name is lost. The part of a file that can't be written or put in its place is taken away again;
+/// a store that is dropped leaves it where it is. A folder is no file: to ask for its size fails.
 #[derive(Drop)]
 pub struct FileStore<'a, R: Files> {
     rt: &'a R,
@@ -115,7 +115,10 @@ impl<'a, R: Files> Store for FileStore<'a, R> {
                 self.draft = Some(draft);
                 Ok(())
             }
-            Err(error) => Err(write_fault(&mut self.write_faults, &error)),
+            Err(error) => {
+                let _ = self.rt.remove_file(draft.part.as_str());
+                Err(write_fault(&mut self.write_faults, &error))
+            }
         }
     }
 
@@ -123,7 +126,10 @@ impl<'a, R: Files> Store for FileStore<'a, R> {
         let draft = self.draft.take().unwrap();
         match self.rt.rename(draft.part.as_str(), draft.name.as_str()) {
             Ok(()) => Ok(()),
-            Err(error) => Err(write_fault(&mut self.write_faults, &error)),
+            Err(error) => {
+                let _ = self.rt.remove_file(draft.part.as_str());
+                Err(write_fault(&mut self.write_faults, &error))
+            }
         }
     }
 }

@@ -47,7 +47,7 @@ fn real_file_is_replaced(rt: HostRuntime) -> Result<(), Fail> {
 }
 
 #[test]
-fn real_files_are_refused(rt: HostRuntime) {
+fn real_files_are_refused(rt: HostRuntime) -> Result<(), Fail> {
     let mut store = FileStore::new(&rt, rt.alloc());
     assert_eq!(rt; store.size("outer_io_test.none"), Err(StoreFault::Missing));
     assert_eq!(rt; store.size("."), Err(StoreFault::Failed));
@@ -55,6 +55,10 @@ fn real_files_are_refused(rt: HostRuntime) {
         store.begin("outer_io_test.none/a"),
         Err(StoreFault::Failed)
     );
+    store.begin(".")?;
+    assert_eq!(rt; store.commit(), Err(StoreFault::Failed));
+    assert_eq!(rt; store.size("..part"), Err(StoreFault::Missing));
+    Ok(())
 }
 
 #[test]
