@@ -34,27 +34,12 @@ use Rattle.command_words.specs.declared.form.Form.{Form}
 use Rattle.command_words.specs.declared.form.Form.TheVariants.{Decrypt}
 use Rattle.command_words.specs.declared.status.Status.TheVariants.{NotOurs}
 use Rattle.command_model.specs.Plan.{Output, values, plan_of_form, operand, taken, is_taken}
+use Rattle.command_model.proofs.Standing.{stands_with}
 use Rattle.command_model.specs.Plain.{Owner, Item, text, secret_of, sealed, State, Stands, IsItem, IsSealed, with_item, opened, same_owner, step, step_of_form}
 use Rattle.bfv_commands.specs.Decrypted.{modulus, part, phase_residue, plaintext, decrypted_values, text_of, exact_plan}
 use Rattle.bfv_commands.proofs.Contents.{taken_tests}
 use Rattle.bfv_commands.proofs.Decrypting.{slots-ext}
 use Rattle.bfv_commands.proofs.Outputs.{exact_plan-ok, decryption_of_plan}
-
-item_after : (files : Files) (state : State) (out bytes : List ℕ) (item : Option Item) (name : List ℕ) (i : Item) → Stands files state
-    → ((j : Item) → item ≡ Some j → IsItem j bytes) → (b : Bool) → bytes_eq name out ≡ b → cond b item (state name) ≡ Some i
-    → (held : List ℕ) × ((file (map.insert files out bytes) name ≡ Some held) × IsItem i held)
-item_after files state out bytes item name i stands is true same at =
-    let e : name ≡ out = (bytes_eq-Decides name out).0 same in
-    (bytes, (ap (λ (n : List ℕ). file (map.insert files out bytes) n) e ∙ file_set_same files out bytes, is i at))
-item_after files state out bytes item name i stands is false other at =
-    let apart : name ≢ out = λ e. let never : true ≡ false = sym ((bytes_eq-Decides name out).1 e) ∙ other in cc in
-    let old = stands.each name i at in
-    (old.0, (file_set_other files out bytes name apart ∙ old.1.0, old.1.1))
-
--- a file is written, and the state has an item there at most
-pub stands_with : (files : Files) (state : State) (out bytes : List ℕ) (item : Option Item) → Stands files state → ((i : Item) → item ≡ Some i → IsItem i bytes)
-    → Stands (map.insert files out bytes) (with_item state out item)
-stands_with files state out bytes item stands is = record { each = λ name i at. item_after files state out bytes item name i stands is (bytes_eq name out) refl at }
 
 -- the content of a file that is taken is the one that the file has
 taken_content : (kind : FileKind) (word : ℕ) (bytes : List ℕ) (content held : FileContent) → taken kind word (Some bytes) ≡ Ok content → IsFile bytes held → held.kind ≡ kind
