@@ -1,0 +1,44 @@
+// What a text of values is refused with.
+ghost use Rattle.std.specs.Prelude.{◌≡◌};
+ghost use Rattle.script_text.specs.declared.faults.ValueFault.TheVariants as fault;
+
+use std::alloc::{AllocError, AllocFailed};
+
+/// What is wrong with a text of values, and where.
+#[derive(Clone, Copy, Debug, PartialEq, Eq)]
+pub enum ValuePlace {
+    /// The byte at this offset is neither a digit nor a blank, or is the twenty-first digit of its
+    /// number.
+    BadText(u64),
+    /// The value of this number, counted from 0, is too large.
+    TooLarge(u64),
+    /// There are more values than places for them.
+    TooMany,
+    /// The text has more than 4,194,304 bytes.
+    TooLong,
+}
+
+/// Why a text of values wasn't read.
+#[derive(Clone, Copy, Debug, PartialEq, Eq)]
+pub enum ValueFault {
+    /// The text is wrong.
+    Bad(ValuePlace),
+    /// There was no memory.
+    Memory,
+}
+
+impl From<AllocError> for ValueFault {
+    ghost from_gives = { λ _ e. e ≡ fault.Memory };
+
+    fn from(_: AllocError) -> Self {
+        ValueFault::Memory
+    }
+}
+
+impl<T: Drop> From<AllocFailed<T>> for ValueFault {
+    ghost from_gives = { λ _ e. e ≡ fault.Memory };
+
+    fn from(_: AllocFailed<T>) -> Self {
+        ValueFault::Memory
+    }
+}
