@@ -28,6 +28,10 @@ ternary_sample word = word % 3
 unfoldable pub error_sample : ℕ → ℤ
 error_sample word = pos (count_ones (word % 2 ^ 21)) -ℤ pos (count_ones (word / 2 ^ 21 % 2 ^ 21))
 
+-- the greatest absolute value of an error that is drawn: 21 bits less 21 bits
+abbrev pub greatest_error : ℕ
+greatest_error = 21
+
 -- two words as one number, the first one high, modulo p
 abbrev pub uniform_sample : ℕ → ℕ → ℕ → ℕ
 uniform_sample p high low = (high * 2 ^ 64 + low) % p

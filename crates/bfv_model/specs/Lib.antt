@@ -8,4 +8,5 @@ pub mod Conversions
 pub mod Keys
 pub mod Plaintexts
 pub mod Drawn
+pub mod DrawnFiles
 pub mod NoiseBounds
