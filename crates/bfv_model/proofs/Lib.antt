@@ -32,3 +32,4 @@ pub mod DrawnSamples
 pub mod DrawnKeys
 pub mod DrawnDigits
 pub mod KeyRows
+pub mod DrawnFiles
