@@ -3,15 +3,27 @@ use Rattle.std.specs.Prelude.{◌≡◌, ◌⊎◌, ℕ, Bool, List, [], ◌∷�
 use Rattle.std.specs.Str.{bytes_eq}
 use Rattle.std.specs.List.{list_any}
 use Rattle.command_words.specs.declared.form.Form.{Form}
-use Rattle.command_words.specs.declared.form.Form.TheVariants.{Decrypt}
+use Rattle.command_words.specs.declared.form.Form.TheVariants.{Secret, Public, Encrypt, Decrypt}
 
 -- one of the words is empty
 abbrev pub has_empty_word : List (List ℕ) → Bool
 has_empty_word words = list_any (λ word. length word == 0) words
 
+-- the form of three words behind a command's name. A secret is made for the smallest set alone.
+abbrev pub form_of_three : List ℕ → List ℕ → Option Form
+form_of_three command first =
+    if bytes_eq command (codes "secret") then (if bytes_eq first (codes "one16") then Some Secret else None)
+    else (if bytes_eq command (codes "public") then Some Public
+    else (if bytes_eq command (codes "decrypt") then Some Decrypt else None))
+
+-- the form of four words behind a command's name
+abbrev pub form_of_four : List ℕ → Option Form
+form_of_four command = if bytes_eq command (codes "encrypt") then Some Encrypt else None
+
 -- the form that words have by the first of them and by their number, where none is empty
 abbrev pub form_of_full_words : List (List ℕ) → Option Form
-form_of_full_words (command ∷ secret ∷ cipher ∷ out ∷ []) = if bytes_eq command (codes "decrypt") then Some Decrypt else None
+form_of_full_words (command ∷ first ∷ second ∷ third ∷ []) = form_of_three command first
+form_of_full_words (command ∷ first ∷ second ∷ third ∷ fourth ∷ []) = form_of_four command
 form_of_full_words _ = None
 
 -- the form of words
@@ -20,12 +32,17 @@ form_of words = if has_empty_word words then None else form_of_full_words words
 
 -- how many words a form has
 abbrev pub word_count : Form → ℕ
-word_count Decrypt = 4
+word_count Encrypt = 5
+word_count _ = 4
 
 -- the numbers of the words that name the files a form reads
 abbrev pub IsOperand : Form → ℕ → Type 0
+IsOperand Secret word = word ≡ 2
+IsOperand Public word = (word ≡ 1) ⊎ (word ≡ 2)
+IsOperand Encrypt word = (word ≡ 1) ⊎ (word ≡ 2) ⊎ (word ≡ 3)
 IsOperand Decrypt word = (word ≡ 1) ⊎ (word ≡ 2)
 
--- the number of the word that names the file OUT, which a form writes
+-- the number of the word that names the file OUT, which a form writes: the last
 abbrev pub out_word : Form → ℕ
-out_word Decrypt = 3
+out_word Encrypt = 4
+out_word _ = 3

@@ -1,5 +1,6 @@
 // The forms of a command's words.
-ghost use Rattle.std.specs.Prelude.{◌≡◌, ◌==◌, map, IfSome, length};
+ghost use Rattle.std.specs.Prelude.{◌≡◌, ◌==◌, map, IfSome, length, codes, if◌then◌else◌};
+ghost use Rattle.std.specs.Str.{bytes_eq};
 ghost use Rattle.std.specs.List.{list_any};
 ghost use Rattle.std.specs.String.{string_bytes};
 ghost use Rattle.command_words.specs.Form as form;
@@ -7,6 +8,12 @@ ghost use Rattle.command_words.specs.Form as form;
 /// What the words of a command line ask for. Words are counted from 0, the command's name.
 #[derive(Clone, Copy, Debug, PartialEq, Eq)]
 pub enum Form {
+    /// `secret SET SEEDFILE OUT` draws a ternary secret.
+    Secret,
+    /// `public SEC SEEDFILE OUT` makes a public key.
+    Public,
+    /// `encrypt PUB SEEDFILE VALUES OUT` encrypts a text of values.
+    Encrypt,
     /// `decrypt SEC CIPHER OUT` writes the values of a ciphertext.
     Decrypt,
 }
@@ -34,7 +41,45 @@ fn form_of_full_words(words: &[String]) -> Option<Form>
     ensures count { IfSome result (λ f. length words.now ≡ form.word_count f) }
 {
     match words {
-        [command, _, _, _] if command.as_str() == "decrypt" => Some(Form::Decrypt),
+        [command, first, _, _] => form_of_three(command.as_str(), first.as_str()),
+        [command, _, _, _, _] => form_of_four(command.as_str()),
         _ => None,
+    }
+}
+
+fn form_of_three(command: &str, first: &str) -> Option<Form>
+    ensures form { result ≡ form.form_of_three command.now first.now }
+    ensures count { IfSome result (λ f. form.word_count f ≡ 4) }
+{
+    if command == "secret" {
+        return form_of_secret(first);
+    }
+    if command == "public" {
+        return Some(Form::Public);
+    }
+    if command == "decrypt" {
+        return Some(Form::Decrypt);
+    }
+    None
+}
+
+fn form_of_secret(set: &str) -> Option<Form>
+    ensures { result ≡ (if bytes_eq set.now (codes "one16") then Some Form.Secret else None) }
+{
+    if set == "one16" {
+        Some(Form::Secret)
+    } else {
+        None
+    }
+}
+
+fn form_of_four(command: &str) -> Option<Form>
+    ensures form { result ≡ form.form_of_four command.now }
+    ensures count { IfSome result (λ f. form.word_count f ≡ 5) }
+{
+    if command == "encrypt" {
+        Some(Form::Encrypt)
+    } else {
+        None
     }
 }

@@ -2,6 +2,8 @@
 ghost use Rattle.std.specs.Prelude.{◌≡◌};
 ghost use Rattle.command_words.specs.Status.{parts_of};
 
+use script_text::ValuePlace;
+
 /// How a command ended. A `word` is the number of the word of a file operand, counted from 0.
 #[derive(Clone, Copy, Debug, PartialEq, Eq)]
 pub enum Status {
@@ -17,6 +19,10 @@ pub enum Status {
     MissingFile { word: u32 },
     /// A file isn't the text of a key or a ciphertext that this command takes.
     NotOurs { word: u32 },
+    /// A text of values is wrong.
+    BadValues { word: u32, fault: ValuePlace },
+    /// A seed file has only `have` bytes, which are fewer than 32.
+    ShortSeed { word: u32, have: u32 },
 }
 
 impl Status {
@@ -32,6 +38,8 @@ impl Status {
             Status::WriteFault => 5,
             Status::MissingFile { .. } => 6,
             Status::NotOurs { .. } => 7,
+            Status::BadValues { .. } => 13,
+            Status::ShortSeed { .. } => 19,
         }
     }
 
@@ -47,6 +55,8 @@ impl Status {
             Status::WriteFault => "write fault",
             Status::MissingFile { .. } => "missing file",
             Status::NotOurs { .. } => "not ours",
+            Status::BadValues { .. } => "bad values",
+            Status::ShortSeed { .. } => "short seed",
         }
     }
 
@@ -55,8 +65,11 @@ impl Status {
         ensures { result ≡ (parts_of self.now).word }
     {
         match *self {
-            Status::ReadFault { word } | Status::MissingFile { word } | Status::NotOurs { word } =>
-                Some(word),
+            Status::ReadFault { word }
+            | Status::MissingFile { word }
+            | Status::NotOurs { word }
+            | Status::BadValues { word, .. }
+            | Status::ShortSeed { word, .. } => Some(word),
             Status::Done | Status::Usage | Status::Memory | Status::WriteFault => None,
         }
     }
