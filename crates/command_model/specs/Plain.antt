@@ -1,26 +1,32 @@
 -- The plain machine: what files stand for, and what a command does to that. Nothing of noise, residues or keys is in a plain state.
-use Rattle.std.specs.Prelude.{◌≡◌, ℕ, ◌<◌, ◌^◌, Bool, ◌&&◌, ◌==◌, if◌then◌else◌, ℤ, List, length, map, All, Option, Some, None, unwrap_or}
+use Rattle.std.specs.Prelude.{◌≡◌, ℕ, ◌<◌, ◌^◌, Bool, ◌&&◌, ◌==◌, if◌then◌else◌, ℤ, List, length, map, All, Option, Some, None, Result, Ok, Err, unwrap_or}
 use Rattle.std.specs.Str.{bytes_eq}
 use Rattle.outer_io.specs.Store.{Files, file}
 use Rattle.set_table.specs.declared.SetName.{SetName}
+use Rattle.set_table.specs.declared.SetName.TheVariants.{One16}
 use Rattle.set_table.specs.declared.KeyKind.{KeyKind}
 use Rattle.set_table.specs.declared.KeyKind.TheVariants.{Relin, Turn}
 use Rattle.set_table.specs.Sets.{number_of, degree_of, plain_of, data_of, special_of, key_of}
 use Rattle.set_table.specs.Roots.{root_of}
+use Rattle.ring_law.specs.Sums.{values_below}
 use Rattle.ring_law.specs.Polynomials.{ring_product, ring_turn}
 use Rattle.bound_num.specs.Bound.{bound_value}
 use Rattle.bfv_model.specs.declared.file_kind.FileKind.{FileKind}
 use Rattle.bfv_model.specs.declared.file_kind.FileKind.TheVariants.{Secret, PublicKey, SwitchKey, Cipher}
 use Rattle.bfv_model.specs.FileText.{FileContent, IsFile}
+use Rattle.bfv_model.specs.Drawn.{drawn_key_id, drawn_secret, greatest_error}
 use Rattle.bfv_model.specs.Holds.{CipherHolds, stored_word, secret_polynomial}
 use Rattle.bfv_model.specs.Keys.{WordsArePublicKeyOf, WordsAreSwitchKeyOf, stored_key_word}
 use Rattle.ring_law.specs.Rows.{natural_polynomial}
 use Rattle.bfv_model.specs.Slots.{slots_of}
+use Rattle.script_text.specs.declared.faults.ValuePlace.{ValuePlace}
+use Rattle.script_text.specs.Reading.{values_of}
 use Rattle.script_text.specs.Values.{printed_values}
 use Rattle.command_words.specs.Form.{form_of, out_word}
 use Rattle.command_words.specs.Line.{word_at}
 use Rattle.command_words.specs.declared.form.Form.{Form}
-use Rattle.command_words.specs.declared.form.Form.TheVariants.{Decrypt}
+use Rattle.command_words.specs.declared.form.Form.TheVariants as form
+use Rattle.command_model.specs.Plan.{seed_word}
 
 -- whose secret: the set, the key id, and the n coefficients as words, with 2 for -1
 pub record Owner : Type 0 where
@@ -47,14 +53,48 @@ State = List ℕ → Option Item
 abbrev pub with_item : State → List ℕ → Option Item → State
 with_item state name item = λ other. if bytes_eq other name then item else state other
 
+-- the owner of the secret that a seed draws for a set
+abbrev pub drawn_owner : SetName → List ℕ → Owner
+drawn_owner set seed = record {
+  set = set;
+  key_id = drawn_key_id (seed_word seed);
+  secret = values_below (degree_of set) (drawn_secret (seed_word seed));
+}
+
+-- a text, as a seed, draws a secret
+abbrev pub drawn : SetName → Option Item → Option Item
+drawn set (Some (text seed)) = Some (secret_of (drawn_owner set seed))
+drawn set _ = None
+
+-- a secret has public keys
+abbrev pub published : Option Item → Option Item
+published (Some (secret_of owner)) = Some (public_key_of owner)
+published _ = None
+
+abbrev pub sealed_if_read : Owner → Result (List ℕ) ValuePlace → Option Item
+sealed_if_read owner (Ok values) = Some (sealed owner values)
+sealed_if_read owner (Err place) = None
+
+-- a public key seals the values of a text
+abbrev pub sealed_under : Option Item → Option Item → Option Item
+sealed_under (Some (public_key_of owner)) (Some (text bytes)) = sealed_if_read owner (values_of bytes (degree_of owner.set) (plain_of owner.set))
+sealed_under _ _ = None
+
 -- the values that a cipher seals are read with the secret that it was sealed under
 abbrev pub opened : Option Item → Option Item → Option Item
 opened (Some (secret_of owner)) (Some (sealed other values)) = if same_owner owner other then Some (text (printed_values values)) else None
 opened _ _ = None
 
+-- the item of the file OUT
+abbrev pub item_made : Form → List (List ℕ) → State → Option Item
+item_made form.Secret words state = drawn One16 (state (word_at words 2))
+item_made form.Public words state = published (state (word_at words 1))
+item_made form.Encrypt words state = sealed_under (state (word_at words 1)) (state (word_at words 3))
+item_made form.Decrypt words state = opened (state (word_at words 1)) (state (word_at words 2))
+
 abbrev pub step_of_form : Option Form → List (List ℕ) → State → State
 step_of_form None words state = state
-step_of_form (Some Decrypt) words state = with_item state (word_at words (out_word Decrypt)) (opened (state (word_at words 1)) (state (word_at words 2)))
+step_of_form (Some form) words state = with_item state (word_at words (out_word form)) (item_made form words state)
 
 -- the state after a command that is done: only the item of the file OUT changes
 abbrev pub step : List (List ℕ) → State → State
@@ -76,10 +116,6 @@ pub record BelongsTo (owner : Owner) (kind : FileKind) (content : FileContent) :
 pub record IsSecretOf (owner : Owner) (content : FileContent) : Type 0 where
   pub belongs : BelongsTo owner Secret content
   pub words : content.words ≡ owner.secret
-
--- the greatest absolute value of an error that is drawn: 21 bits less 21 bits
-abbrev pub greatest_error : ℕ
-greatest_error = 21
 
 -- the content is a public key of the owner's secret
 pub record IsPublicKeyFor (owner : Owner) (content : FileContent) : Type 0 where

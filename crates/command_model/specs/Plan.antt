@@ -1,20 +1,28 @@
 -- What the words of a command and the files lead to: the first refusal, or the file OUT as far as it is determined.
-use Rattle.std.specs.Prelude.{◌≡◌, ℕ, ◌<◌, Bool, not, ◌&&◌, ◌==◌, if◌then◌else◌, List, length, slice_index, All, Option, Some, None, Result, Ok, Err, IsOk}
+use Rattle.std.specs.Prelude.{◌≡◌, ℕ, ◌<◌, nat_lt, Bool, not, ◌&&◌, ◌==◌, if◌then◌else◌, List, length, take, slice_index, All, Option, Some, None, Result, Ok, Err, IsOk}
 use Rattle.outer_io.specs.Store.{Files, file}
 use Rattle.set_table.specs.declared.SetName.{SetName}
 use Rattle.set_table.specs.declared.SetName.TheVariants.{One16}
 use Rattle.set_table.specs.Sets.{degree_of, plain_of}
 use Rattle.bfv_model.specs.declared.file_kind.FileKind.{FileKind}
-use Rattle.bfv_model.specs.declared.file_kind.FileKind.TheVariants.{Secret, Cipher}
-use Rattle.bfv_model.specs.FileText.{FileContent}
+use Rattle.bfv_model.specs.declared.file_kind.FileKind.TheVariants.{Secret, PublicKey, Cipher}
+use Rattle.bfv_model.specs.FileText.{FileContent, file_text}
 use Rattle.bfv_model.specs.FileTests.{is_file_of, content_at}
+use Rattle.bfv_model.specs.Drawn.{stream_word, seed_stream, greatest_error}
+use Rattle.bfv_model.specs.DrawnFiles.{drawn_secret_file, drawn_public_file, drawn_cipher_file}
+use Rattle.bfv_model.specs.NoiseBounds.{fresh_bound}
+use Rattle.bfv_model.specs.Slots.{slots_of}
+use Rattle.bound_num.specs.Bound.{IsUp}
+use Rattle.ring_law.specs.Rows.{natural_polynomial}
+use Rattle.script_text.specs.declared.faults.ValuePlace.{ValuePlace}
+use Rattle.script_text.specs.Reading.{values_of}
 use Rattle.script_text.specs.Values.{printed_values}
 use Rattle.command_words.specs.Form.{form_of, out_word}
 use Rattle.command_words.specs.Line.{word_at}
 use Rattle.command_words.specs.declared.form.Form.{Form}
-use Rattle.command_words.specs.declared.form.Form.TheVariants.{Decrypt}
+use Rattle.command_words.specs.declared.form.Form.TheVariants as form
 use Rattle.command_words.specs.declared.status.Status.{Status}
-use Rattle.command_words.specs.declared.status.Status.TheVariants.{Usage, MissingFile, NotOurs}
+use Rattle.command_words.specs.declared.status.Status.TheVariants.{Usage, MissingFile, NotOurs, BadValues, ShortSeed}
 
 -- the bytes are a file of this kind that a command takes: of the smallest set, and no cipher of three parts
 abbrev pub is_taken : FileKind → List ℕ → Bool
@@ -29,6 +37,32 @@ taken kind word (Some bytes) = if is_taken kind bytes then Ok (content_at kind O
 abbrev pub operand : List (List ℕ) → Files → FileKind → ℕ → Result FileContent Status
 operand words files kind word = taken kind word (file files (word_at words word))
 
+-- a seed is the first 32 bytes of its file
+abbrev pub taken_seed : ℕ → Option (List ℕ) → Result (List ℕ) Status
+taken_seed word None = Err (MissingFile word)
+taken_seed word (Some bytes) = if nat_lt (length bytes) 32 then Err (ShortSeed word (length bytes)) else Ok (take 32 bytes)
+
+-- the seed in the file that a word names
+abbrev pub seed_operand : List (List ℕ) → Files → ℕ → Result (List ℕ) Status
+seed_operand words files word = taken_seed word (file files (word_at words word))
+
+-- the word at a place of the stream of a seed
+abbrev pub seed_word : List ℕ → ℕ → ℕ
+seed_word seed place = stream_word (seed_stream seed) place
+
+abbrev pub values_or_fault : ℕ → Result (List ℕ) ValuePlace → Result (List ℕ) Status
+values_or_fault word (Ok listed) = Ok listed
+values_or_fault word (Err place) = Err (BadValues word place)
+
+-- as many values as a set has slots
+abbrev pub taken_values : SetName → ℕ → Option (List ℕ) → Result (List ℕ) Status
+taken_values set word None = Err (MissingFile word)
+taken_values set word (Some bytes) = values_or_fault word (values_of bytes (degree_of set) (plain_of set))
+
+-- the values in the text that a word names
+abbrev pub values_operand : SetName → List (List ℕ) → Files → ℕ → Result (List ℕ) Status
+values_operand set words files word = taken_values set word (file files (word_at words word))
+
 -- a file is read after the one before it was taken
 abbrev pub and_then : {A B E : Type 0} → Result A E → (A → Result B E) → Result B E
 and_then (Ok value) next = next value
@@ -36,8 +70,27 @@ and_then (Err error) next = Err error
 
 -- what a command writes
 pub data Output : Type 0 where
+  -- the file with this content
+  file_with : (content : FileContent) → Output
+  -- a fresh cipher of these values under a public key, drawn from the stream of a seed
+  sealing : (public : FileContent) (listed seed : List ℕ) → Output
   -- the values of a cipher under a secret
   values : (secret cipher : FileContent) → Output
+
+-- `secret SET SEEDFILE OUT`
+abbrev pub plan_of_secret : List (List ℕ) → Files → Result Output Status
+plan_of_secret words files = and_then (seed_operand words files 2) (λ seed. Ok (file_with (drawn_secret_file One16 (seed_word seed))))
+
+-- `public SEC SEEDFILE OUT`: the secret is read before the seed
+abbrev pub plan_of_public : List (List ℕ) → Files → Result Output Status
+plan_of_public words files =
+    and_then (operand words files Secret 1) (λ secret. and_then (seed_operand words files 2) (λ seed. Ok (file_with (drawn_public_file secret (seed_word seed)))))
+
+-- `encrypt PUB SEEDFILE VALUES OUT`: the public key is read before the seed, and the seed before the values
+abbrev pub plan_of_encrypt : List (List ℕ) → Files → Result Output Status
+plan_of_encrypt words files =
+    and_then (operand words files PublicKey 1) (λ public. and_then (seed_operand words files 2) (λ seed.
+    and_then (values_operand public.set words files 3) (λ listed. Ok (sealing public listed seed))))
 
 -- `decrypt SEC CIPHER OUT`: the secret is read before the cipher
 abbrev pub plan_of_decrypt : List (List ℕ) → Files → Result Output Status
@@ -46,7 +99,10 @@ plan_of_decrypt words files =
 
 abbrev pub plan_of_form : Option Form → List (List ℕ) → Files → Result Output Status
 plan_of_form None words files = Err Usage
-plan_of_form (Some Decrypt) words files = plan_of_decrypt words files
+plan_of_form (Some form.Secret) words files = plan_of_secret words files
+plan_of_form (Some form.Public) words files = plan_of_public words files
+plan_of_form (Some form.Encrypt) words files = plan_of_encrypt words files
+plan_of_form (Some form.Decrypt) words files = plan_of_decrypt words files
 
 -- what the words and the files lead to. An `Err` is the refusal: the first test that fails, in the order of reading.
 abbrev pub plan : List (List ℕ) → Files → Result Output Status
@@ -55,7 +111,10 @@ plan words files = plan_of_form (form_of words) words files
 -- no refusal stands before the file of this word is read
 abbrev pub IsReached : Option Form → List (List ℕ) → Files → ℕ → Type 0
 IsReached None words files word = ⊥
-IsReached (Some Decrypt) words files word = 1 < word → IsOk (operand words files Secret 1)
+IsReached (Some form.Secret) words files word = Unit {0}
+IsReached (Some form.Public) words files word = 1 < word → IsOk (operand words files Secret 1)
+IsReached (Some form.Encrypt) words files word = (1 < word → IsOk (operand words files PublicKey 1)) × (2 < word → IsOk (seed_operand words files 2))
+IsReached (Some form.Decrypt) words files word = 1 < word → IsOk (operand words files Secret 1)
 
 -- the bytes are the printed text of n values below t
 pub record IsValuesText (set : SetName) (bytes : List ℕ) : Type 0 where
@@ -64,8 +123,21 @@ pub record IsValuesText (set : SetName) (bytes : List ℕ) : Type 0 where
   pub below : All (λ value. value < plain_of set) values
   pub text : bytes ≡ printed_values values
 
+-- the bytes are the file of the cipher of these values that is drawn under a public key, from the stream of a seed. It
+-- states the bound on the noise of a fresh cipher.
+pub record IsFreshCipher (public : FileContent) (listed seed bytes : List ℕ) : Type 0 where
+  pub plaintext : ℕ → ℕ
+  pub below : (k : ℕ) → k < degree_of public.set → plaintext k < plain_of public.set
+  pub slots : slots_of public.set (natural_polynomial plaintext) ≡ listed
+  pub mantissa : ℕ
+  pub exponent : ℕ
+  pub bound : IsUp (fresh_bound (degree_of public.set) (plain_of public.set) greatest_error) mantissa exponent
+  pub text : bytes ≡ file_text (drawn_cipher_file public plaintext mantissa exponent (seed_word seed))
+
 -- what is determined of the bytes of the file OUT
 abbrev pub IsWritten : Output → List ℕ → Type 0
+IsWritten (file_with content) bytes = bytes ≡ file_text content
+IsWritten (sealing public listed seed) bytes = IsFreshCipher public listed seed bytes
 IsWritten (values secret cipher) bytes = IsValuesText cipher.set bytes
 
 -- the name of the file OUT
