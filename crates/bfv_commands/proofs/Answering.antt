@@ -39,6 +39,11 @@ printed_part words old new status answer refused same rose front = record {
     memory_apart : Memory ≢ Done
     memory_apart is = cc
 
+-- the answer to a refusal isn't Done
+pub answer_apart : (status answer : Status) → status ≢ Done → (answer ≡ status) ⊎ (answer ≡ Memory) → answer ≢ Done
+answer_apart status answer refused (inl same) = λ done. refused (sym same ∙ done)
+answer_apart status answer refused (inr memory) = λ done. let never : Memory ≡ Done = sym memory ∙ done in cc
+
 -- a command that is done put nothing
 pub printed_nothing : (words : List (List ℕ)) (old : SinkState) → Printed words old old Done
 printed_nothing words old = record { done = λ _. refl; whole = λ refused. absurd (refused refl); part = λ refused. absurd (refused refl) }

@@ -5,7 +5,7 @@ use Rattle.std.proofs.lemmas.Bool.{eqb-true, and_parts, or_cases}
 use Rattle.std.proofs.lemmas.List.{get_or_past}
 use Rattle.set_table.specs.declared.SetName.TheVariants.{One16}
 use Rattle.bfv_model.specs.declared.file_kind.FileKind.{FileKind}
-use Rattle.bfv_model.specs.declared.file_kind.FileKind.TheVariants.{Secret, Cipher}
+use Rattle.bfv_model.specs.declared.file_kind.FileKind.TheVariants.{Secret, PublicKey, Cipher}
 use Rattle.bfv_model.specs.Bytes.{number_from, words_from}
 use Rattle.bfv_model.specs.FileText.{row_count, word_modulus}
 use Rattle.bfv_model.specs.FileTests.{stated_count, has_head, fields_fit, has_digest, words_fit, is_file_of, content_at}
@@ -38,6 +38,10 @@ taken_tests kind bytes is =
 -- a secret of the smallest set has sixteen words
 pub secret_count : (bytes : List ℕ) → is_taken Secret bytes ≡ true → stated_count bytes ≡ 16
 secret_count bytes is = (taken_tests Secret bytes is).fields.count
+
+-- a public key has thirty-two
+pub public_count : (bytes : List ℕ) → is_taken PublicKey bytes ≡ true → stated_count bytes ≡ 32
+public_count bytes is = (taken_tests PublicKey bytes is).fields.count
 
 parts_are_two : (parts : ℕ) → ((parts == 2) || (parts == 3)) ≡ true → not (parts == 3) ≡ true → parts ≡ 2
 parts_are_two parts fit other = ⊎_elim (λ (two : (parts == 2) ≡ true). eqb-true parts 2 two)

@@ -1,9 +1,17 @@
 pub mod Rows
 pub mod Phases
 pub mod Points
+pub mod SlotSums
 pub mod FileTests
 pub mod Contents
+pub mod FileTexts
+pub mod SeedFiles
+pub mod ValueTexts
+pub mod DrawnRows
 pub mod Decrypting
+pub mod FreshFiles
+pub mod Planning
 pub mod Answering
 pub mod Outputs
+pub mod MadeItems
 pub mod Standing

@@ -1,110 +1,168 @@
--- The output of a plan, and the bytes that are written for it.
-use Rattle.std.proofs.Common.{◌≡◌, ◌≢◌, ◌⊎◌, inl, inr, ⊎_elim, ℕ, List, refl, sym, ◌∙◌, ap, subst}
+-- The output of a plan: its operands, and what is said of the bytes that are made for it.
+use Rattle.std.proofs.Common.{◌≡◌, ◌≢◌, ◌⊎◌, inl, inr, ℕ, List, refl, sym, ◌∙◌, ap, subst}
 use Rattle.std.specs.Prelude.{Bool, true, false, Option, Some, None, Result, Ok, Err, IsOk, if◌then◌else◌}
 use Rattle.std.specs.FinMap as map
 use Rattle.outer_io.specs.Store.{Files, file}
 use Rattle.set_table.specs.declared.SetName.{SetName}
 use Rattle.set_table.specs.declared.SetName.TheVariants.{One16}
 use Rattle.bfv_model.specs.declared.file_kind.FileKind.{FileKind}
-use Rattle.bfv_model.specs.declared.file_kind.FileKind.TheVariants.{Secret, Cipher}
+use Rattle.bfv_model.specs.declared.file_kind.FileKind.TheVariants.{Secret, PublicKey, Cipher}
 use Rattle.bfv_model.specs.FileText.{FileContent}
 use Rattle.bfv_model.specs.FileTests.{content_at}
+use Rattle.bfv_model.specs.DrawnFiles.{drawn_secret_file, drawn_public_file}
 use Rattle.command_words.specs.Form.{form_of, out_word}
 use Rattle.command_words.specs.Line.{word_at}
 use Rattle.command_words.specs.declared.form.Form.{Form}
-use Rattle.command_words.specs.declared.form.Form.TheVariants.{Decrypt}
+use Rattle.command_words.specs.declared.form.Form.TheVariants as form
 use Rattle.command_words.specs.declared.status.Status.{Status}
 use Rattle.command_words.specs.declared.status.Status.TheVariants.{Done, Memory, ReadFault, WriteFault, NotOurs}
-use Rattle.command_model.specs.Plan.{Output, values, plan, plan_of_form, operand, taken, is_taken, and_then, out_name, IsReached, IsWritten, IsValuesText}
+use Rattle.command_model.specs.Plan.{Output, file_with, sealing, values, plan, plan_of_form, plan_of_secret, plan_of_public, plan_of_encrypt, plan_of_decrypt, operand, taken, is_taken, seed_operand, values_operand, seed_word, and_then, out_name, IsReached, IsWritten, IsValuesText}
 use Rattle.command_model.specs.Answers.{IsDone, IsFault, Told}
-use Rattle.bfv_commands.specs.Decrypted.{text_of, exact_plan, decrypted_values}
+use Rattle.bfv_commands.specs.Decrypted.{decrypted_values}
+use Rattle.bfv_commands.specs.Stages.{IsMade, PlannedBytes}
 use Rattle.bfv_commands.proofs.Contents.{content_set}
 use Rattle.bfv_commands.proofs.Decrypting.{length-decrypted_values, decrypted_values_below}
 
--- the output behind a planned text
-pub record PlannedText (planned : Result Output Status) (bytes : List ℕ) : Type 0 where
-  pub output : Output
-  pub is : planned ≡ Ok output
-  pub text : text_of output ≡ bytes
+-- ---- what a planned output says of the operands
+-- where two steps lead to a value, the first one did
+both_steps : {A B E : Type 0} (first : Result A E) (next : A → Result B E) (value : B) → and_then first next ≡ Ok value
+    → (middle : A) × ((first ≡ Ok middle) × (next middle ≡ Ok value))
+both_steps (Ok middle) next value is = (middle, (refl, is))
+both_steps (Err error) next value is = absurd (cc)
 
-text_planned : (planned : Result Output Status) (bytes : List ℕ) → and_then planned (λ output. Ok (text_of output)) ≡ Ok bytes → PlannedText planned bytes
-text_planned (Ok output) bytes is = record { output = output; is = refl; text = cc }
-text_planned (Err status) bytes is = absurd (cc)
+pub record PlannedSecret (words : List (List ℕ)) (files : Files) (output : Output) : Type 0 where
+  pub seed : List ℕ
+  pub seed_is : seed_operand words files 2 ≡ Ok seed
+  pub output_is : output ≡ file_with (drawn_secret_file One16 (seed_word seed))
 
-pub exact_plan-ok : (words : List (List ℕ)) (files : Files) (bytes : List ℕ) → exact_plan words files ≡ Ok bytes → PlannedText (plan words files) bytes
-exact_plan-ok words files bytes is = text_planned (plan words files) bytes is
+pub planned_secret : (words : List (List ℕ)) (files : Files) (output : Output) → plan_of_secret words files ≡ Ok output → PlannedSecret words files output
+planned_secret words files output is =
+    let seed = both_steps (seed_operand words files 2) (λ seed. Ok (file_with (drawn_secret_file One16 (seed_word seed)))) output is in
+    record { seed = seed.0; seed_is = seed.1.0; output_is = let last = seed.1.1 in cc }
 
-refused_text : (planned : Result Output Status) (status : Status) → and_then planned (λ output. Ok (text_of output)) ≡ Err status → planned ≡ Err status
-refused_text (Ok output) status is = absurd (cc)
-refused_text (Err refusal) status is = let same : refusal ≡ status = cc in ap Err same
+pub record PlannedPublicKey (words : List (List ℕ)) (files : Files) (output : Output) : Type 0 where
+  pub secret : FileContent
+  pub seed : List ℕ
+  pub secret_is : operand words files Secret 1 ≡ Ok secret
+  pub seed_is : seed_operand words files 2 ≡ Ok seed
+  pub output_is : output ≡ file_with (drawn_public_file secret (seed_word seed))
 
-pub exact_plan-err : (words : List (List ℕ)) (files : Files) (status : Status) → exact_plan words files ≡ Err status → plan words files ≡ Err status
-exact_plan-err words files status is = refused_text (plan words files) status is
+pub planned_public_key : (words : List (List ℕ)) (files : Files) (output : Output) → plan_of_public words files ≡ Ok output → PlannedPublicKey words files output
+planned_public_key words files output is =
+    let secret = both_steps (operand words files Secret 1) (λ secret. and_then (seed_operand words files 2) (λ seed.
+    Ok (file_with (drawn_public_file secret (seed_word seed))))) output is in
+    let seed = both_steps (seed_operand words files 2) (λ seed. Ok (file_with (drawn_public_file secret.0 (seed_word seed)))) output secret.1.1 in
+    record { secret = secret.0; seed = seed.0; secret_is = secret.1.0; seed_is = seed.1.0; output_is = let last = seed.1.1 in cc }
 
-ok_text : (planned : Result Output Status) → IsOk (and_then planned (λ output. Ok (text_of output))) → IsOk planned
-ok_text (Ok output) ok = refl
-ok_text (Err refusal) ok = absurd (cc)
+pub record PlannedCipher (words : List (List ℕ)) (files : Files) (output : Output) : Type 0 where
+  pub public : FileContent
+  pub seed : List ℕ
+  pub listed : List ℕ
+  pub public_is : operand words files PublicKey 1 ≡ Ok public
+  pub seed_is : seed_operand words files 2 ≡ Ok seed
+  pub listed_is : values_operand public.set words files 3 ≡ Ok listed
+  pub output_is : output ≡ sealing public listed seed
 
-pub exact_plan-is_ok : (words : List (List ℕ)) (files : Files) → IsOk (exact_plan words files) → IsOk (plan words files)
-exact_plan-is_ok words files ok = ok_text (plan words files) ok
+pub planned_cipher : (words : List (List ℕ)) (files : Files) (output : Output) → plan_of_encrypt words files ≡ Ok output → PlannedCipher words files output
+planned_cipher words files output is =
+    let public = both_steps (operand words files PublicKey 1) (λ public. and_then (seed_operand words files 2) (λ seed.
+    and_then (values_operand public.set words files 3) (λ listed. Ok (sealing public listed seed)))) output is in
+    let seed = both_steps (seed_operand words files 2) (λ seed.
+    and_then (values_operand public.0.set words files 3) (λ listed. Ok (sealing public.0 listed seed))) output public.1.1 in
+    let listed = both_steps (values_operand public.0.set words files 3) (λ listed. Ok (sealing public.0 listed seed.0)) output seed.1.1 in
+    record {
+      public = public.0;
+      seed = seed.0;
+      listed = listed.0;
+      public_is = public.1.0;
+      seed_is = seed.1.0;
+      listed_is = listed.1.0;
+      output_is = let last = listed.1.1 in cc;
+    }
 
-taken_set : (kind : FileKind) (word : ℕ) (file : Option (List ℕ)) (content : FileContent) → taken kind word file ≡ Ok content → content.set ≡ One16
-taken_set kind word None content is = absurd (cc)
-taken_set kind word (Some bytes) content is = of_test (is_taken kind bytes) is
-  where
-    of_test : (test : Bool) → (if test then Ok (content_at kind One16 bytes) else Err (NotOurs word)) ≡ Ok content → content.set ≡ One16
-    of_test true is = let same : content_at kind One16 bytes ≡ content = cc in ap (λ (c : FileContent). c.set) (sym same) ∙ content_set kind bytes
-    of_test false is = absurd (cc)
-
--- what is written for a secret and a cipher is a text of values
-values_written : (secret cipher : FileContent) → cipher.set ≡ One16 → IsWritten (values secret cipher) (text_of (values secret cipher))
-values_written secret cipher set = subst (λ (s : SetName). IsValuesText s (text_of (values secret cipher))) (sym set) (record {
-  values = decrypted_values secret.words cipher.words;
-  count = length-decrypted_values secret.words cipher.words;
-  below = decrypted_values_below secret.words cipher.words;
-  text = refl;
-})
-
--- the two operands of a planned decryption
-pub record Decryption (words : List (List ℕ)) (files : Files) (output : Output) : Type 0 where
+pub record PlannedValues (words : List (List ℕ)) (files : Files) (output : Output) : Type 0 where
   pub secret : FileContent
   pub cipher : FileContent
   pub secret_is : operand words files Secret 1 ≡ Ok secret
   pub cipher_is : operand words files Cipher 2 ≡ Ok cipher
   pub output_is : output ≡ values secret cipher
 
-decryption : (words : List (List ℕ)) (files : Files) (output : Output) (a b : Result FileContent Status) → operand words files Secret 1 ≡ a → operand words files Cipher 2 ≡ b
-    → and_then a (λ secret. and_then b (λ cipher. Ok (values secret cipher))) ≡ Ok output → Decryption words files output
-decryption words files output (Ok secret) (Ok cipher) first second is = record { secret = secret; cipher = cipher; secret_is = first; cipher_is = second; output_is = cc }
-decryption words files output (Ok secret) (Err status) first second is = absurd (cc)
-decryption words files output (Err status) b first second is = absurd (cc)
+pub planned_values : (words : List (List ℕ)) (files : Files) (output : Output) → plan_of_decrypt words files ≡ Ok output → PlannedValues words files output
+planned_values words files output is =
+    let secret = both_steps (operand words files Secret 1) (λ secret. and_then (operand words files Cipher 2) (λ cipher. Ok (values secret cipher))) output is in
+    let cipher = both_steps (operand words files Cipher 2) (λ cipher. Ok (values secret.0 cipher)) output secret.1.1 in
+    record { secret = secret.0; cipher = cipher.0; secret_is = secret.1.0; cipher_is = cipher.1.0; output_is = let last = cipher.1.1 in cc }
 
-pub decryption_of_plan : (words : List (List ℕ)) (files : Files) (output : Output) → plan_of_form (Some Decrypt) words files ≡ Ok output → Decryption words files output
-decryption_of_plan words files output is = decryption words files output (operand words files Secret 1) (operand words files Cipher 2) refl refl is
+-- ---- operands that are files
+-- what was taken of a file
+pub record TakenFile (kind : FileKind) (file : Option (List ℕ)) (content : FileContent) : Type 0 where
+  pub bytes : List ℕ
+  pub file_is : file ≡ Some bytes
+  pub passes : is_taken kind bytes ≡ true
+  pub content_is : content_at kind One16 bytes ≡ content
 
-form_written : (form : Option Form) (words : List (List ℕ)) (files : Files) (output : Output) → plan_of_form form words files ≡ Ok output → IsWritten output (text_of output)
-form_written None words files output is = absurd (cc)
-form_written (Some Decrypt) words files output is =
-    let d = decryption_of_plan words files output is in
-    subst (λ (o : Output). IsWritten o (text_of o)) (sym d.output_is) (values_written d.secret d.cipher (taken_set Cipher 2 (file files (word_at words 2)) d.cipher d.cipher_is))
+pub taken_file : (kind : FileKind) (word : ℕ) (file : Option (List ℕ)) (content : FileContent) → taken kind word file ≡ Ok content → TakenFile kind file content
+taken_file kind word None content is = absurd (cc)
+taken_file kind word (Some bytes) content is = of_test (is_taken kind bytes) refl is
+  where
+    of_test : (test : Bool) → is_taken kind bytes ≡ test → (if test then Ok (content_at kind One16 bytes) else Err (NotOurs word)) ≡ Ok content → TakenFile kind (Some bytes) content
+    of_test true passes is = record { bytes = bytes; file_is = refl; passes = passes; content_is = cc }
+    of_test false passes is = absurd (cc)
 
+-- it is of the smallest set
+pub taken_set : (kind : FileKind) (file : Option (List ℕ)) (content : FileContent) → TakenFile kind file content → content.set ≡ One16
+taken_set kind file content found = ap (λ (c : FileContent). c.set) (sym found.content_is) ∙ content_set kind found.bytes
+
+-- ---- the bytes that are made are as determined
+-- the printed values of a cipher of the smallest set
+values_written : (secret cipher : FileContent) (bytes : List ℕ) → cipher.set ≡ One16 → IsMade (values secret cipher) bytes → IsWritten (values secret cipher) bytes
+values_written secret cipher bytes set made = subst (λ (s : SetName). IsValuesText s bytes) (sym set) (record {
+  values = decrypted_values secret.words cipher.words;
+  count = length-decrypted_values secret.words cipher.words;
+  below = decrypted_values_below secret.words cipher.words;
+  text = made;
+})
+
+-- an output is the one that its operands say
+written_as : (output planned : Output) (bytes : List ℕ) → output ≡ planned → (IsMade planned bytes → IsWritten planned bytes) → IsMade output bytes → IsWritten output bytes
+written_as output planned bytes is = subst (λ (o : Output). IsMade o bytes → IsWritten o bytes) (sym is)
+
+pub made_written : (form : Option Form) (words : List (List ℕ)) (files : Files) (output : Output) → plan_of_form form words files ≡ Ok output → (bytes : List ℕ)
+    → IsMade output bytes → IsWritten output bytes
+made_written None words files output is bytes = absurd (cc)
+made_written (Some form.Secret) words files output is bytes =
+    let p = planned_secret words files output is in
+    written_as output (file_with (drawn_secret_file One16 (seed_word p.seed))) bytes p.output_is (λ made. made)
+made_written (Some form.Public) words files output is bytes =
+    let p = planned_public_key words files output is in
+    written_as output (file_with (drawn_public_file p.secret (seed_word p.seed))) bytes p.output_is (λ made. made)
+made_written (Some form.Encrypt) words files output is bytes =
+    let p = planned_cipher words files output is in
+    written_as output (sealing p.public p.listed p.seed) bytes p.output_is (λ made. made)
+made_written (Some form.Decrypt) words files output is bytes =
+    let p = planned_values words files output is in
+    let found = taken_file Cipher 2 (file files (word_at words 2)) p.cipher p.cipher_is in
+    written_as output (values p.secret p.cipher) bytes p.output_is
+    (values_written p.secret p.cipher bytes (taken_set Cipher (file files (word_at words 2)) p.cipher found))
+
+-- ---- what is told
 -- a command up to its line, told at Ok, is done as the clauses say
-pub done_of_run : (form : Form) (words : List (List ℕ)) (before : Files) (after : Option Files) → form_of words ≡ Some form
-    → (bytes : List ℕ) × ((exact_plan words before ≡ Ok bytes) × (after ≡ Some (map.insert before (word_at words (out_word form)) bytes))) → IsDone words before after
+done_of_run : (form : Form) (words : List (List ℕ)) (before : Files) (after : Option Files) → form_of words ≡ Some form
+    → (bytes : List ℕ) × (PlannedBytes (plan words before) bytes × (after ≡ Some (map.insert before (word_at words (out_word form)) bytes))) → IsDone words before after
 done_of_run form words before after is told =
-    let p = exact_plan-ok words before told.0 told.1.0 in
+    let p = told.1.0 in
     record {
       output = p.output;
       planned = p.is;
       name = word_at words (out_word form);
       named = ap (λ (f : Option Form). out_name f words) is;
       bytes = told.0;
-      written = subst (IsWritten p.output) p.text (form_written (form_of words) words before p.output p.is);
+      written = made_written (form_of words) words before p.output p.is told.0 p.made;
       files = told.1.1;
     }
 
 pub told_done : (form : Form) (words : List (List ℕ)) (before : Files) (after : Option Files) → form_of words ≡ Some form
-    → (bytes : List ℕ) × ((exact_plan words before ≡ Ok bytes) × (after ≡ Some (map.insert before (word_at words (out_word form)) bytes))) → Told words before after Done
+    → (bytes : List ℕ) × (PlannedBytes (plan words before) bytes × (after ≡ Some (map.insert before (word_at words (out_word form)) bytes))) → Told words before after Done
 told_done form words before after is told = record {
   done = λ _. done_of_run form words before after is told;
   unchanged = λ not. absurd (not refl);
@@ -115,13 +173,13 @@ told_done form words before after is told = record {
 
 -- what a refusal tells is told of the answer, which may want memory for its line
 pub told_refused : (form : Form) (words : List (List ℕ)) (before : Files) (after : Option Files) (status answer : Status) → form_of words ≡ Some form → status ≢ Done
-    → after ≡ Some before → IsFault status ⊎ (exact_plan words before ≡ Err status) → (status ≡ WriteFault → IsOk (exact_plan words before))
+    → after ≡ Some before → IsFault status ⊎ (plan words before ≡ Err status) → (status ≡ WriteFault → IsOk (plan words before))
     → ((word : ℕ) → status ≡ ReadFault word → IsReached (Some form) words before word) → (answer ≡ status) ⊎ (answer ≡ Memory) → Told words before after answer
 told_refused form words before after status answer is refused same why write read (inl answered) = subst (Told words before after) (sym answered) record {
   done = λ done. absurd (refused done);
   unchanged = λ _. same;
-  refused = λ _. ⊎_elim (λ (fault : IsFault status). inl fault) (λ (planned : exact_plan words before ≡ Err status). inr (exact_plan-err words before status planned)) why;
-  write_fault = λ fault. exact_plan-is_ok words before (write fault);
+  refused = λ _. why;
+  write_fault = write;
   read_fault = λ word fault. subst (λ (f : Option Form). IsReached f words before word) (sym is) (read word fault);
 }
 told_refused form words before after status answer is refused same why write read (inr answered) = subst (Told words before after) (sym answered) record {

@@ -1,12 +1,11 @@
 -- A command that is done takes the files to what the plain machine steps to.
-use Rattle.std.proofs.Common.{◌≡◌, ◌≢◌, ℕ, ◌*◌, ◌<◌, ◌≤◌, List, [], ◌∷◌, refl, sym, ◌∙◌, ap, subst, arith, lit<, pos}
-use Rattle.std.specs.Prelude.{Bool, true, false, cond, ◌&&◌, ◌==◌, if◌then◌else◌, length, Option, Some, None, Ok, Err}
+use Rattle.std.proofs.Common.{◌≡◌, ℕ, ◌<◌, List, [], ◌∷◌, refl, sym, ◌∙◌, ap, subst, lit<, pos}
+use Rattle.std.specs.Prelude.{Bool, true, false, ◌&&◌, ◌==◌, if◌then◌else◌, length, Option, Some, None, Ok}
 use Rattle.std.specs.Str.{bytes_eq}
 use Rattle.std.specs.FinMap as map
 use Rattle.std.proofs.lemmas.Slice.Eq.{bytes_eq-Decides}
 use Rattle.std.proofs.lemmas.Bool.{eqb-true, and_parts}
-use Rattle.outer_io.specs.Store.{Files, file}
-use Rattle.outer_io.proofs.Names.{file_set_same, file_set_other}
+use Rattle.outer_io.specs.Store.{Files}
 use Rattle.set_table.specs.declared.SetName.{SetName}
 use Rattle.set_table.specs.declared.SetName.TheVariants.{One16}
 use Rattle.set_table.specs.Sets.{number_of, degree_of, plain_of, data_of}
@@ -19,41 +18,27 @@ use Rattle.bound_num.specs.Bound.{bound_value}
 use Rattle.bfv_model.specs.declared.file_kind.FileKind.{FileKind}
 use Rattle.bfv_model.specs.declared.file_kind.FileKind.TheVariants.{Secret, Cipher}
 use Rattle.bfv_model.specs.FileText.{FileContent, IsFile, bound_fits}
-use Rattle.bfv_model.specs.FileTests.{content_at}
+use Rattle.bfv_model.specs.DrawnFiles.{drawn_secret_file, drawn_public_file}
 use Rattle.bfv_model.specs.Holds.{CipherHolds, Holds, stored_word, secret_polynomial, phase}
 use Rattle.bfv_model.specs.Slots.{slots_of}
-use Rattle.bfv_model.specs.Limit.{limit}
 use Rattle.bfv_model.proofs.Ciphers.{CipherHolds-one_modulus}
 use Rattle.bfv_model.proofs.Rounding.{decryption_by_rounding}
-use Rattle.bfv_model.proofs.Limits.{limit_le}
-use Rattle.bfv_model.proofs.Rules.{cipher_bound}
-use Rattle.bfv_model.proofs.Files.{file_is_read, number_of-once}
+use Rattle.bfv_model.proofs.Rules.{cipher_bound-room}
+use Rattle.bfv_model.proofs.Files.{number_of-once}
 use Rattle.command_words.specs.Form.{form_of, out_word}
 use Rattle.command_words.specs.Line.{word_at}
 use Rattle.command_words.specs.declared.form.Form.{Form}
-use Rattle.command_words.specs.declared.form.Form.TheVariants.{Decrypt}
-use Rattle.command_words.specs.declared.status.Status.TheVariants.{NotOurs}
-use Rattle.command_model.specs.Plan.{Output, values, plan_of_form, operand, taken, is_taken}
+use Rattle.command_words.specs.declared.form.Form.TheVariants as form
+use Rattle.command_model.specs.Plan.{Output, file_with, sealing, values, plan, plan_of_form, operand, seed_word}
+use Rattle.command_model.specs.Plain.{Owner, Item, text, secret_of, sealed, State, Stands, IsItem, IsSecretOf, IsSealed, opened, same_owner, item_made, step, step_of_form}
 use Rattle.command_model.proofs.Standing.{stands_with}
-use Rattle.command_model.specs.Plain.{Owner, Item, text, secret_of, sealed, State, Stands, IsItem, IsSealed, with_item, opened, same_owner, step, step_of_form}
-use Rattle.bfv_commands.specs.Decrypted.{modulus, part, phase_residue, plaintext, decrypted_values, text_of, exact_plan}
-use Rattle.bfv_commands.proofs.Contents.{taken_tests}
+use Rattle.bfv_commands.specs.Decrypted.{modulus, part, phase_residue, plaintext, decrypted_values}
+use Rattle.bfv_commands.specs.Stages.{IsMade, PlannedBytes}
 use Rattle.bfv_commands.proofs.Decrypting.{slots-ext}
-use Rattle.bfv_commands.proofs.Outputs.{exact_plan-ok, decryption_of_plan}
+use Rattle.bfv_commands.proofs.Outputs.{planned_secret, planned_public_key, planned_cipher, planned_values}
+use Rattle.bfv_commands.proofs.MadeItems.{operand_content, item_drawn, item_published, item_sealed}
 
--- the content of a file that is taken is the one that the file has
-taken_content : (kind : FileKind) (word : ℕ) (bytes : List ℕ) (content held : FileContent) → taken kind word (Some bytes) ≡ Ok content → IsFile bytes held → held.kind ≡ kind
-    → (content ≡ held) × (held.set ≡ One16)
-taken_content kind word bytes content held is file_of kind_is = of_test (is_taken kind bytes) refl is
-  where
-    of_test : (test : Bool) → is_taken kind bytes ≡ test → (if test then Ok (content_at kind One16 bytes) else Err (NotOurs word)) ≡ Ok content → (content ≡ held) × (held.set ≡ One16)
-    of_test true yes_taken is =
-        let read = file_is_read bytes held file_of in
-        let set : held.set ≡ One16 = number_of-once held.set One16 (sym read.head.set_is ∙ (taken_tests kind bytes yes_taken).head.set_is) in
-        let same : content_at kind One16 bytes ≡ content = cc in
-        (sym same ∙ ap (λ (k : FileKind). content_at k One16 bytes) (sym kind_is) ∙ ap (λ (s : SetName). content_at held.kind s bytes) (sym set) ∙ read.content, set)
-    of_test false not_taken is = absurd (cc)
-
+-- ---- opened values
 -- a cipher of the smallest set that holds a plaintext within the bound that it states decrypts to its slots
 decrypted_slots : (s words : List ℕ) (m : ℕ → ℕ) (mantissa exponent : ℕ) → bound_fits Cipher One16 mantissa exponent ≡ true
     → CipherHolds 16 (modulus ∷ []) 257 (stored_word 16 1 words) (secret_polynomial s) m (bound_value mantissa exponent)
@@ -64,15 +49,9 @@ decrypted_slots s words m mantissa exponent fits holds = slots-ext 16 257 136 (n
     whole : Holds 16 modulus 257 (natural_polynomial (part words 0)) (natural_polynomial (part words 1)) (natural_polynomial (part words 2)) (secret_polynomial s) m (bound_value mantissa exponent)
     whole = CipherHolds-one_modulus (lit< tt) (lit< tt) holds
 
-    room : 4 * bound_value mantissa exponent ≤ modulus
-    room = within (bound_value mantissa exponent) (cipher_bound One16 mantissa exponent fits).within (limit_le (data_of One16)) refl
-      where
-        within : (b : ℕ) → b ≤ limit (data_of One16) → 4 * limit (data_of One16) ≤ product (data_of One16) → product (data_of One16) ≡ modulus → 4 * b ≤ modulus
-        within b small most is = omega arith
-
     at : (k : ℕ) → k < 16 → plaintext s words k ≡ m k
     at k below = decryption_by_rounding 16 modulus 257 (natural_polynomial (part words 0)) (natural_polynomial (part words 1)) (natural_polynomial (part words 2))
-        (secret_polynomial s) m (bound_value mantissa exponent) (lit< tt) whole room (phase_residue s words) k below
+        (secret_polynomial s) m (bound_value mantissa exponent) (lit< tt) whole (cipher_bound-room One16 mantissa exponent fits) (phase_residue s words) k below
         (Congruent-sym modulus (Congruent-residue modulus (phase 16 (natural_polynomial (part words 0)) (natural_polynomial (part words 1)) (natural_polynomial (part words 2)) (secret_polynomial s) k) (lit< tt)))
 
 -- owners that pass the test of being one have one set and one secret
@@ -113,46 +92,56 @@ opened_is (Some (secret_of owner)) (Some (sealed other vs)) item is = of_test (s
     of_test false same is = absurd (cc)
 opened_is _ _ item is = absurd (cc)
 
--- a file that an operand of a planned command names
-taken_file : (kind : FileKind) (word : ℕ) (files : Files) (name bytes : List ℕ) (content held : FileContent) → taken kind word (file files name) ≡ Ok content → file files name ≡ Some bytes
-    → IsFile bytes held → held.kind ≡ kind → (content ≡ held) × (held.set ≡ One16)
-taken_file kind word files name bytes content held is at file_of kind_is =
-    taken_content kind word bytes content held (ap (taken kind word) (sym at) ∙ is) file_of kind_is
-
 -- the bytes that `decrypt` writes stand for what the plain machine opens
-item_opened : (words : List (List ℕ)) (files : Files) (state : State) (secret cipher : FileContent) (item : Item) → Stands files state
-    → operand words files Secret 1 ≡ Ok secret → operand words files Cipher 2 ≡ Ok cipher → opened (state (word_at words 1)) (state (word_at words 2)) ≡ Some item
-    → IsItem item (text_of (values secret cipher))
-item_opened words files state secret cipher item stands secret_is cipher_is is =
+item_opened : (words : List (List ℕ)) (files : Files) (state : State) (secret cipher : FileContent) (bytes : List ℕ) (item : Item) → Stands files state
+    → operand words files Secret 1 ≡ Ok secret → operand words files Cipher 2 ≡ Ok cipher → bytes ≡ printed_values (decrypted_values secret.words cipher.words)
+    → opened (state (word_at words 1)) (state (word_at words 2)) ≡ Some item → IsItem item bytes
+item_opened words files state secret cipher bytes item stands secret_is cipher_is made is =
     let o = opened_is (state (word_at words 1)) (state (word_at words 2)) item is in
-    let first = stands.each (word_at words 1) (secret_of o.owner) o.secret_is in
-    let second = stands.each (word_at words 2) (sealed o.other o.sealed_values) o.cipher_is in
-    let owners = same_owner_is o.owner o.other o.same in
-    let secret_file = taken_file Secret 1 files (word_at words 1) first.0 secret first.1.1.0 secret_is first.1.0 first.1.1.1.0 first.1.1.1.1.belongs.is_kind in
-    let cipher_file = taken_file Cipher 2 files (word_at words 2) second.0 cipher second.1.1.0 cipher_is second.1.0 second.1.1.1.0 second.1.1.1.1.belongs.is_kind in
-    let set : o.other.set ≡ One16 = sym second.1.1.1.1.belongs.of_set ∙ cipher_file.1 in
-    let secret_words : secret.words ≡ o.other.secret = ap (λ (c : FileContent). c.words) secret_file.0 ∙ first.1.1.1.1.words ∙ owners.1 in
-    let found : decrypted_values secret.words second.1.1.0.words ≡ o.sealed_values =
-    sealed_values o.other o.sealed_values second.1.1.0 secret.words second.0 second.1.1.1.0 second.1.1.1.1 set secret_words in
-    subst (λ (i : Item). IsItem i (text_of (values secret cipher))) (sym o.item_is)
-    (ap printed_values (ap (λ (c : FileContent). decrypted_values secret.words c.words) cipher_file.0 ∙ found))
+    let key = operand_content words files Secret 1 secret (IsSecretOf o.owner) (λ _ s. s.belongs.is_kind) secret_is
+    (stands.each (word_at words 1) (secret_of o.owner) o.secret_is) in
+    let source = operand_content words files Cipher 2 cipher (IsSealed o.other o.sealed_values) (λ _ s. s.belongs.is_kind) cipher_is
+    (stands.each (word_at words 2) (sealed o.other o.sealed_values) o.cipher_is) in
+    let set : o.other.set ≡ One16 = sym source.is.belongs.of_set ∙ source.set in
+    let found : decrypted_values secret.words cipher.words ≡ o.sealed_values =
+    sealed_values o.other o.sealed_values cipher secret.words source.bytes source.is_file source.is set (key.is.words ∙ (same_owner_is o.owner o.other o.same).1) in
+    subst (λ (i : Item). IsItem i bytes) (sym o.item_is) (made ∙ ap printed_values found)
 
-form_after : (form : Form) (words : List (List ℕ)) (before after : Files) (state : State) (output : Output) → plan_of_form (Some form) words before ≡ Ok output
-    → after ≡ map.insert before (word_at words (out_word form)) (text_of output) → Stands before state → Stands after (step_of_form (Some form) words state)
-form_after Decrypt words before after state output planned is stands =
-    let d = decryption_of_plan words before output planned in
-    let item : Option Item = opened (state (word_at words 1)) (state (word_at words 2)) in
-    subst (λ (files : Files). Stands files (step_of_form (Some Decrypt) words state)) (sym is)
-    (stands_with before state (word_at words 3) (text_of output) item stands
-    (λ i at. subst (λ (o : Output). IsItem i (text_of o)) (sym d.output_is) (item_opened words before state d.secret d.cipher i stands d.secret_is d.cipher_is at)))
+-- ---- a command that is done
+-- what is made for an output is made for the one that its operands say
+made_as : (output planned : Output) (bytes : List ℕ) → output ≡ planned → IsMade output bytes → IsMade planned bytes
+made_as output planned bytes is = subst (λ (o : Output). IsMade o bytes) is
+
+-- the bytes that are made stand for what the plain machine makes
+item_of_output : (form : Form) (words : List (List ℕ)) (files : Files) (state : State) (output : Output) (bytes : List ℕ) (item : Item) → Stands files state
+    → plan_of_form (Some form) words files ≡ Ok output → IsMade output bytes → item_made form words state ≡ Some item → IsItem item bytes
+item_of_output form.Secret words files state output bytes item stands planned made is =
+    let p = planned_secret words files output planned in
+    item_drawn words files state p.seed bytes item stands p.seed_is
+    (made_as output (file_with (drawn_secret_file One16 (seed_word p.seed))) bytes p.output_is made) is
+item_of_output form.Public words files state output bytes item stands planned made is =
+    let p = planned_public_key words files output planned in
+    item_published words files state p.secret p.seed bytes item stands p.secret_is
+    (made_as output (file_with (drawn_public_file p.secret (seed_word p.seed))) bytes p.output_is made) is
+item_of_output form.Encrypt words files state output bytes item stands planned made is =
+    let p = planned_cipher words files output planned in
+    item_sealed words files state p.public p.listed p.seed bytes item stands p.public_is p.listed_is
+    (made_as output (sealing p.public p.listed p.seed) bytes p.output_is made) is
+item_of_output form.Decrypt words files state output bytes item stands planned made is =
+    let p = planned_values words files output planned in
+    item_opened words files state p.secret p.cipher bytes item stands p.secret_is p.cipher_is
+    (made_as output (values p.secret p.cipher) bytes p.output_is made) is
 
 -- at Done the files stand for the plain machine's next state
 pub stands_after : (form : Form) (words : List (List ℕ)) (before after : Files) (state : State) → form_of words ≡ Some form
-    → (bytes : List ℕ) × ((exact_plan words before ≡ Ok bytes) × (◌≡◌ {A = Option Files} (Some after) (Some (map.insert before (word_at words (out_word form)) bytes))))
+    → (bytes : List ℕ) × (PlannedBytes (plan words before) bytes × (◌≡◌ {A = Option Files} (Some after) (Some (map.insert before (word_at words (out_word form)) bytes))))
     → Stands before state → Stands after (step words state)
 stands_after form words before after state is told stands =
-    let p = exact_plan-ok words before told.0 told.1.0 in
+    let p = told.1.0 in
     let planned : plan_of_form (Some form) words before ≡ Ok p.output = ap (λ (f : Option Form). plan_of_form f words before) (sym is) ∙ p.is in
-    let written : after ≡ map.insert before (word_at words (out_word form)) told.0 = cc in
-    let same : after ≡ map.insert before (word_at words (out_word form)) (text_of p.output) = written ∙ ap (map.insert before (word_at words (out_word form))) (sym p.text) in
-    subst (λ (f : Option Form). Stands after (step_of_form f words state)) (sym is) (form_after form words before after state p.output planned same stands)
+    let written : after ≡ map.insert before (word_at words (out_word form)) told.0 = let files = told.1.1 in cc in
+    let next : Stands (map.insert before (word_at words (out_word form)) told.0) (step_of_form (Some form) words state) =
+    stands_with before state (word_at words (out_word form)) told.0 (item_made form words state) stands
+    (λ item at. item_of_output form words before state p.output told.0 item stands planned p.made at) in
+    subst (λ (f : Option Form). Stands after (step_of_form f words state)) (sym is)
+    (subst (λ (files : Files). Stands files (step_of_form (Some form) words state)) (sym written) next)

@@ -1,15 +1,11 @@
 -- What `decrypt` writes, exactly: t/q times the phase rounded to the nearest whole number, and the slots of that.
-use Rattle.std.specs.Prelude.{ℕ, ◌*◌, ◌%◌, List, length, slice_index, Result, Ok}
+use Rattle.std.specs.Prelude.{ℕ, ◌*◌, ◌%◌, List, length, slice_index}
 use Rattle.set_table.specs.declared.SetName.TheVariants.{One16}
 use Rattle.set_table.specs.Sets.{degree_of, plain_of, data_of}
 use Rattle.ring_law.specs.Residues.{residue}
 use Rattle.ring_law.specs.Rows.{natural_polynomial}
 use Rattle.bfv_model.specs.Holds.{phase, nearest_quotient, stored_word, secret_polynomial}
 use Rattle.bfv_model.specs.Slots.{slots_of}
-use Rattle.script_text.specs.Values.{printed_values}
-use Rattle.outer_io.specs.Store.{Files}
-use Rattle.command_words.specs.declared.status.Status.{Status}
-use Rattle.command_model.specs.Plan.{Output, values, plan, and_then}
 
 -- the data modulus of the smallest set
 abbrev pub modulus : ℕ
@@ -31,11 +27,3 @@ plaintext secret cipher k = nearest_quotient (plain_of One16 * phase_residue sec
 -- the values
 unfoldable pub decrypted_values : List ℕ → List ℕ → List ℕ
 decrypted_values secret cipher = slots_of One16 (natural_polynomial (plaintext secret cipher))
-
--- the bytes of the file OUT
-abbrev pub text_of : Output → List ℕ
-text_of (values secret cipher) = printed_values (decrypted_values secret.words cipher.words)
-
--- the plan, with exactly these bytes
-abbrev pub exact_plan : List (List ℕ) → Files → Result (List ℕ) Status
-exact_plan words files = and_then (plan words files) (λ output. Ok (text_of output))

@@ -1,2 +1,4 @@
 pub mod Decrypted
+pub mod Encrypted
 pub mod Stages
+pub mod Texts

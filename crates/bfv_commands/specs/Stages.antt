@@ -8,13 +8,32 @@ use Rattle.command_words.specs.Status.{parts_of}
 use Rattle.command_words.specs.declared.form.Form.{Form}
 use Rattle.command_words.specs.declared.status.Status.{Status}
 use Rattle.command_words.specs.declared.status.Status.TheVariants.{Done, Usage, ReadFault, WriteFault, MissingFile}
-use Rattle.command_model.specs.Plan.{IsReached}
+use Rattle.bfv_model.specs.FileText.{file_text}
+use Rattle.script_text.specs.Values.{printed_values}
+use Rattle.command_model.specs.Plan.{IsReached, IsFreshCipher, Output, file_with, sealing, values, plan}
 use Rattle.command_model.specs.Answers.{IsFault}
-use Rattle.bfv_commands.specs.Decrypted.{exact_plan}
+use Rattle.bfv_commands.specs.Decrypted.{decrypted_values}
 
 -- a result is the planned one, or an answer that no word and no file brings about
 pub record Planned {A B : Type 0} (planned : Result A Status) (view : B → A) (result : Result B Status) : Type 0 where
   pub ok : IfOk result (λ value. planned ≡ Ok (view value))
+  pub err : IfErr result (λ status. IsFault status ⊎ (planned ≡ Err status))
+
+-- the bytes that are written for an output, exactly
+abbrev pub IsMade : Output → List ℕ → Type 0
+IsMade (file_with content) bytes = bytes ≡ file_text content
+IsMade (sealing public listed seed) bytes = IsFreshCipher public listed seed bytes
+IsMade (values secret cipher) bytes = bytes ≡ printed_values (decrypted_values secret.words cipher.words)
+
+-- the bytes are those of a planned output
+pub record PlannedBytes (planned : Result Output Status) (bytes : List ℕ) : Type 0 where
+  pub output : Output
+  pub is : planned ≡ Ok output
+  pub made : IsMade output bytes
+
+-- the bytes of a result are those of the planned output, or the answer is one that no word and no file brings about
+pub record Prepared {B : Type 0} (planned : Result Output Status) (view : B → List ℕ) (result : Result B Status) : Type 0 where
+  pub ok : IfOk result (λ value. PlannedBytes planned (view value))
   pub err : IfErr result (λ status. IsFault status ⊎ (planned ≡ Err status))
 
 -- what the answer of a stage owes to, whether the store tells its files or not
@@ -26,10 +45,10 @@ pub record Caused (IsNamed : ℕ → Type 0) (old new : StoreState) (status : St
   pub missing : (word : ℕ) → status ≡ MissingFile word → Rose old.misses new.misses
   pub word : (word : ℕ) → (parts_of status).word ≡ Some word → IsNamed word
 
--- a command up to its printed line, where files are told: at Ok exactly the planned bytes were written, and an Err is the
+-- a command up to its printed line, where files are told: at Ok the bytes of the planned output were written, and an Err is the
 -- refusal, or an answer that no word and no file brings about
 pub record Ran {T : Type 0} (form : Form) (words : List (List ℕ)) (before : Files) (after : Option Files) (result : Result T Status) : Type 0 where
-  pub ok : OnOk result ((bytes : List ℕ) × ((exact_plan words before ≡ Ok bytes) × (after ≡ Some (map.insert before (word_at words (out_word form)) bytes))))
-  pub err : IfErr result (λ status. IsFault status ⊎ (exact_plan words before ≡ Err status))
-  pub write_fault : IfErr result (λ status. status ≡ WriteFault → IsOk (exact_plan words before))
+  pub ok : OnOk result ((bytes : List ℕ) × (PlannedBytes (plan words before) bytes × (after ≡ Some (map.insert before (word_at words (out_word form)) bytes))))
+  pub err : IfErr result (λ status. IsFault status ⊎ (plan words before ≡ Err status))
+  pub write_fault : IfErr result (λ status. status ≡ WriteFault → IsOk (plan words before))
   pub read_fault : IfErr result (λ status. (word : ℕ) → status ≡ ReadFault word → IsReached (Some form) words before word)

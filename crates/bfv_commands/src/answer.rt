@@ -3,16 +3,19 @@ ghost use Rattle.std.specs.Prelude.{◌≡◌, ◌≢◌, ◌⊎◌, ◌<◌, �
 ghost use Rattle.std.specs.Option.{ForSome};
 ghost use Rattle.std.specs.String.{string_bytes};
 ghost use Rattle.outer_io.specs.Store.{OnlyReads, Rose, with_file};
-ghost use Rattle.command_words.specs.Form.{form_of, IsOperand, out_word};
+ghost use Rattle.command_words.specs.Form.{form_of, IsOperand, out_word, word_count};
 ghost use Rattle.command_words.specs.Line.{word_at};
 ghost use Rattle.command_words.specs.Status.{parts_of};
 ghost use Rattle.command_model.specs.Plan as plan;
 ghost use Rattle.command_model.specs.Answers.{Told, NoFaultRose, IsComplete, Cause, Printed};
 ghost use Rattle.command_model.specs.Plain.{State, Stands, step};
-ghost use Rattle.bfv_commands.specs.Stages.{Planned, Caused, Ran};
-ghost use Rattle.bfv_commands.specs.Decrypted.{exact_plan};
+ghost use Rattle.bfv_commands.specs.Stages.{Prepared, Caused, Ran};
 
 use crate::decrypt::decrypt;
+use crate::encrypt::encrypt;
+use crate::operand::name_of;
+use crate::public::public;
+use crate::secret::secret;
 use command_words::{Form, Status, form_of, put_line};
 use outer_io::{Sink, SinkFault, Store, StoreFault, write_file};
 use std::alloc::Global;
@@ -57,6 +60,7 @@ pub fn command<S: Store, O: Sink>(
 /// Does what words of this form ask for, up to the printed line.
 fn run<S: Store>(alloc: Global, form: Form, words: &[String], store: &mut S) -> Result<(), Status>
     requires form { form_of (map string_bytes words.now) ≡ Some form }
+    requires count { length words.now ≡ word_count form }
     requires idle { (S.state store.old).pending ≡ None }
     ensures idle { (S.state store.new).pending ≡ None }
     ensures told { ForSome (S.state store.old).files (λ files. Ran form (map string_bytes words.now) files (S.state store.new).files result) }
@@ -77,27 +81,33 @@ fn prepare<S: Store>(
     words: &[String],
     store: &mut S,
 ) -> Result<Vec<u8>, Status>
-    requires { form_of (map string_bytes words.now) ≡ Some form }
+    requires form { form_of (map string_bytes words.now) ≡ Some form }
+    requires count { length words.now ≡ word_count form }
     ensures keeps { OnlyReads (S.state store.old) (S.state store.new) }
     ensures told { ForSome (S.state store.old).files (λ files.
-        Planned (exact_plan (map string_bytes words.now) files) (λ v. v.items) result) }
+        Prepared (plan.plan (map string_bytes words.now) files) (λ v. v.items) result) }
     ensures cause { IfErr result (λ s. Caused (IsOperand form) (S.state store.old) (S.state store.new) s) }
     ensures reads { IfErr result (λ s. s ≢ Status.WriteFault) }
     ensures reached { ForSome (S.state store.old).files (λ files. IfErr result (λ s.
         (word : ℕ) → s ≡ Status.ReadFault word → plan.IsReached (Some form) (map string_bytes words.now) files word)) }
 {
     match form {
+        Form::Secret => secret(alloc, words, store),
+        Form::Public => public(alloc, words, store),
+        Form::Encrypt => encrypt(alloc, words, store),
         Form::Decrypt => decrypt(alloc, words, store),
     }
 }
 
 fn out_name(form: Form, words: &[String]) -> &str
-    requires { form_of (map string_bytes words.now) ≡ Some form }
+    requires { length words.now ≡ word_count form }
     ensures { result.now ≡ word_at (map string_bytes words.now) (out_word form) }
 {
-    match form {
-        Form::Decrypt => words[3].as_str(),
-    }
+    let word = match form {
+        Form::Encrypt => 4,
+        Form::Secret | Form::Public | Form::Decrypt => 3,
+    };
+    name_of(words, word)
 }
 
 /// Writes the file OUT.

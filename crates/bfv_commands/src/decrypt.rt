@@ -9,39 +9,33 @@ ghost use Rattle.bfv_model.specs.FileTests.{content_at};
 ghost use Rattle.command_words.specs.Form.{form_of, IsOperand};
 ghost use Rattle.command_words.specs.declared.form.Form.TheVariants.{Decrypt};
 ghost use Rattle.command_model.specs.Plan as plan;
-ghost use Rattle.bfv_commands.specs.Stages.{Planned, Caused};
-ghost use Rattle.bfv_commands.specs.Decrypted.{modulus, exact_plan, text_of};
+ghost use Rattle.bfv_commands.specs.Stages.{Prepared, Caused, IsMade};
+ghost use Rattle.bfv_commands.specs.Decrypted.{modulus};
 ghost use Rattle.ring_law.specs.Residues.{residue};
 ghost use Rattle.ring_law.specs.Polynomials.{ring_product};
 ghost use Rattle.ring_law.specs.Rows.{row_polynomial, natural_polynomial};
 ghost use Rattle.bfv_model.specs.Holds.{secret_polynomial, nearest_quotient};
 ghost use Rattle.bfv_model.specs.Slots.{slots_of};
 
+use crate::fields::words_of;
 use crate::file_tests::HEAD_BYTES;
 use crate::operand::read_operand;
 use crate::rounding::{phase_row, round_row};
 use crate::slots::fill_slots;
+use crate::smallest::{DEGREE, ROOT, data_modulus, plain_modulus};
 use bfv_model::FileKind;
-use byteorder::{ByteOrder, LittleEndian};
 use command_words::Status;
 use outer_io::Store;
 use script_text::print_values;
-use set_table::SetName;
 use std::alloc::{AllocError, Global};
-use word_mod::Modulus;
-
-/// The degree of the smallest set.
-const DEGREE: usize = 16;
-
-/// A root of its plaintext modulus: the 16th power is -1.
-const ROOT: u64 = 136;
 
 /// The bytes that `decrypt SEC CIPHER OUT` writes. Only files are read, and nothing is written.
 pub fn decrypt<S: Store>(alloc: Global, words: &[String], store: &mut S) -> Result<Vec<u8>, Status>
-    requires { form_of (map string_bytes words.now) ≡ Some Decrypt }
+    requires form { form_of (map string_bytes words.now) ≡ Some Decrypt }
+    requires count { length words.now ≡ 4 }
     ensures keeps { OnlyReads (S.state store.old) (S.state store.new) }
     ensures told { ForSome (S.state store.old).files (λ files.
-        Planned (exact_plan (map string_bytes words.now) files) (λ v. v.items) result) }
+        Prepared (plan.plan_of_decrypt (map string_bytes words.now) files) (λ v. v.items) result) }
     ensures cause { IfErr result (λ s. Caused (IsOperand Decrypt) (S.state store.old) (S.state store.new) s) }
     ensures reads { IfErr result (λ s. s ≢ Status.WriteFault) }
     ensures reached { ForSome (S.state store.old).files (λ files. IfErr result (λ s.
@@ -65,8 +59,8 @@ pub fn decrypt<S: Store>(alloc: Global, words: &[String], store: &mut S) -> Resu
 fn decrypted_text(alloc: Global, secret: &[u8], cipher: &[u8]) -> Result<Vec<u8>, AllocError>
     requires secret { plan.is_taken FileKind.Secret secret.now ≡ true }
     requires cipher { plan.is_taken FileKind.Cipher cipher.now ≡ true }
-    ensures { IfOk result (λ text. text.items ≡ text_of
-        (plan.values (content_at FileKind.Secret One16 secret.now) (content_at FileKind.Cipher One16 cipher.now))) }
+    ensures { IfOk result (λ text. IsMade
+        (plan.values (content_at FileKind.Secret One16 secret.now) (content_at FileKind.Cipher One16 cipher.now)) text.items) }
 {
     let mut values = [0; DEGREE];
     decrypt_words(
@@ -90,22 +84,10 @@ fn decrypt_words(
     ensures { values.new ≡ slots_of One16 (natural_polynomial (λ k. nearest_quotient
         (257 * residue modulus (row_polynomial c0.now k +ℤ ring_product 16 (row_polynomial c1.now) (secret_polynomial secret.now) k)) modulus % 257)) }
 {
-    let q = Modulus::new(SetName::One16.data_modulus(0)).unwrap();
-    let t = Modulus::new(SetName::One16.plain()).unwrap();
+    let (q, t) = (data_modulus(), plain_modulus());
     let mut phase = [0; DEGREE];
     phase_row(&q, secret, c0, c1, &mut phase);
     let mut plaintext = [0; DEGREE];
     round_row(&q, &t, &phase, &mut plaintext);
     fill_slots(&t, ROOT, &plaintext, values);
-}
-
-/// `N` words from a place on.
-fn words_of<const N: usize>(bytes: &[u8], from: usize) -> [u64; N]
-    requires degree { N ≤ 32768 }
-    requires inside { from + 8 * N ≤ length bytes.now }
-    ensures { (k : ℕ) → k < N → slice_index result k ≡ number_from (from + 8 * k) 8 bytes.now }
-{
-    let mut words = [0; N];
-    LittleEndian::read_u64_into(&bytes[from..from + 8 * N], &mut words);
-    words
 }

@@ -15,9 +15,9 @@ use set_table::{KeyKind, SetName};
 use sha2::{Digest, Sha256};
 
 /// The bytes that every file begins with.
-const FORMAT_NAME: [u8; 7] = *b"BFVRNSF";
+pub const FORMAT_NAME: [u8; 7] = *b"BFVRNSF";
 
-const VERSION: u8 = 1;
+pub const VERSION: u8 = 1;
 
 /// The bytes before the words.
 pub const HEAD_BYTES: usize = 64;
@@ -61,7 +61,7 @@ fn states(kind: FileKind, bytes: &[u8]) -> bool
     bytes[7] == VERSION && bytes[8] == kind_number(kind) && bytes[9] == SetName::One16.number()
 }
 
-fn kind_number(kind: FileKind) -> u8
+pub fn kind_number(kind: FileKind) -> u8
     ensures { result ≡ text.number_of_kind kind }
 {
     match kind {

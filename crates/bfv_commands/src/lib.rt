@@ -4,9 +4,18 @@
 
 mod answer;
 mod decrypt;
+mod drawing;
+mod encoding;
+mod encrypt;
+mod fields;
+mod file_bytes;
 mod file_tests;
 mod operand;
+mod public;
 mod rounding;
+mod secret;
+mod seed;
 mod slots;
+mod smallest;
 
 pub use answer::command;

@@ -40,7 +40,8 @@ pub fn phase_row<const N: usize>(
     requires degree { N ≤ 32768 }
     requires ternary { (k : ℕ) → k < N → slice_index secret.now k < 3 }
     requires reduced { (k : ℕ) → k < N → slice_index c0.now k < q.now }
-    ensures { RowRepresents N q.now row.new (λ k. row_polynomial c0.now k +ℤ ring_product N (row_polynomial c1.now) (secret_polynomial secret.now) k) }
+    ensures value { RowRepresents N q.now row.new (λ k. row_polynomial c0.now k +ℤ ring_product N (row_polynomial c1.now) (secret_polynomial secret.now) k) }
+    ensures below { (k : ℕ) → k < N → slice_index row.new k < q.now }
 {
     let mut coefficients = [0; N];
     secret_row(q, secret, &mut coefficients);

@@ -1,4 +1,5 @@
 // `decrypt` on files of the smallest set.
+use crate::words::words_of;
 use bfv_commands::command;
 use command_words::Status;
 use outer_io::{MemSink, MemStore};
@@ -68,14 +69,6 @@ fn front_of(alloc: Global, bytes: &[u8], length: usize) -> Result<Vec<u8>, Alloc
     Ok(front)
 }
 
-fn words_of(alloc: Global, texts: &[&str]) -> Result<Vec<String>, AllocError> {
-    let mut words = Vec::new(alloc);
-    for text in texts {
-        words.push(String::from_str(alloc, text)?)?;
-    }
-    Ok(words)
-}
-
 /// The number of a call that no command here comes to.
 const NEVER: u64 = 1000;
 
@@ -141,7 +134,7 @@ fn refusals_are_named(rt: HostRuntime) -> Result<(), Fail> {
         (&[], 2, "usage\n"),
         (&["decrypt", "sec", "c"], 2, "usage\n"),
         (&["decrypt", "sec", "", "out"], 2, "usage\n"),
-        (&["encrypt", "sec", "c", "out"], 2, "usage\n"),
+        (&["seal", "sec", "c", "out"], 2, "usage\n"),
         (&["decrypt", "sec", "d", "out"], 6, "missing file: d\n"),
         (&["decrypt", "s", "d", "out"], 6, "missing file: s\n"),
         (&["decrypt", "c", "c", "out"], 7, "not ours: c\n"),

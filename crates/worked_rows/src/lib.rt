@@ -3,3 +3,7 @@
 
 #[cfg(test)]
 mod decrypt;
+#[cfg(test)]
+mod keys;
+#[cfg(test)]
+mod words;

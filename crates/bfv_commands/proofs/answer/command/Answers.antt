@@ -3,7 +3,7 @@ use Rattle.std.specs.Prelude.{Some}
 use Rattle.std.specs.String.{string_bytes}
 use Rattle.command_words.specs.Form.{form_of}
 use Rattle.command_words.proofs.Words.{operand_below}
-use Rattle.bfv_commands.proofs.Answering.{printed_nothing}
+use Rattle.bfv_commands.proofs.Answering.{answer_apart, cause_of_refusal, complete_answer, printed_nothing}
 use Rattle.bfv_commands.proofs.Outputs.{told_done, told_refused}
 use Rattle.bfv_commands.proofs.Standing.{stands_after}
 use Rattle.bfv_commands.proofs.answer.command.Goals as goal
@@ -34,3 +34,13 @@ returns-in-Err-clause-told g c = λ files told.
     let ran = c.in-Err.ensures.told files told in
     told_refused c.in-Some.form _ files _ c.in-Err.status c.report.result form c.in-Err.ensures.cause.refused (c.in-Err.ensures.unchanged ∙ told)
     ran.err ran.write_fault ran.read_fault c.report.ensures.status
+
+pub returns-in-Err-clause-complete : goal.returns-in-Err-clause-complete
+returns-in-Err-clause-complete g c = λ files told none.
+    let form : form_of (map string_bytes c.args.words.now) ≡ Some c.in-Some.form = search rules in
+    let ran = c.in-Err.ensures.told files told in
+    let apart = answer_apart c.in-Err.status c.report.result c.in-Err.ensures.cause.refused c.report.ensures.status in
+    let refused = told_refused c.in-Some.form _ files _ c.in-Err.status c.report.result form c.in-Err.ensures.cause.refused (c.in-Err.ensures.unchanged ∙ told)
+    ran.err ran.write_fault ran.read_fault c.report.ensures.status in
+    complete_answer (map string_bytes c.args.words.now) _ _ _ _ _ c.report.result
+    (cause_of_refusal (map string_bytes c.args.words.now) c.in-Some.form _ _ c.in-Err.status c.report.result form c.in-Err.ensures.cause c.report.ensures.status) none (refused.refused apart)

@@ -20,4 +20,5 @@ sums-preserved g c =
           (phase_word g.row.N c.args.q.now c.args.c1.now c.secret_row.new.row (secret_polynomial c.args.secret.now) c.sums.k
           (slice_index c.args.c0.now c.sums.k) (slice_index c.product_plain.new.out c.sums.k) c.add.result positive c.sums-test.true
           c.secret_row.ensures product c.add.ensures.value);
+      below = set_next (λ k word. word < c.args.q.now) c.sums.row c.sums.k c.add.result inside c.sums.invariant.below c.add.ensures.below;
     }

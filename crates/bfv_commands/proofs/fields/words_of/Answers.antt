@@ -1,7 +1,7 @@
 use Rattle.std.proofs.Common.{◌≡◌, ℕ, ◌+◌, ◌-◌, ◌*◌, ◌<◌, ◌≤◌, ◌∙◌, length, ap, arith}
 use Rattle.bfv_model.specs.Bytes.{number_from, bytes_from}
 use Rattle.bfv_model.proofs.Bytes.{number_from-bytes_from}
-use Rattle.bfv_commands.proofs.decrypt.words_of.Goals as goal
+use Rattle.bfv_commands.proofs.fields.words_of.Goals as goal
 
 pub returns : goal.returns
 unfolding number_from bytes_from
