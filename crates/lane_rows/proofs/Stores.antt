@@ -1,4 +1,4 @@
-use Rattle.std.proofs.Common.{◌≡◌, ◌≢◌, ℕ, ◌+◌, ◌-◌, ◌*◌, ◌<◌, ◌≤◌, ◌∙◌, List, length, get_or, set, arith, subst, ⊎_elim, below_more, get_or-set_other, get_or-set_same}
+use Rattle.std.proofs.Common.{◌≡◌, ◌≢◌, ℕ, ◌+◌, ◌-◌, ◌*◌, ◌<◌, ◌≤◌, ◌∙◌, List, length, get_or, set, arith, ap, subst, ⊎_elim, below_more, get_or-set_other, get_or-set_same}
 use Rattle.std.proofs.lemmas.Bool.{cases_lt}
 use Rattle.std.proofs.lemmas.Simd.{get_or-put_chunk_below, get_or-put_chunk_at, get_or-put_chunk_above}
 use Rattle.std.specs.List.{SameFrom}
@@ -30,6 +30,20 @@ pub stored : (P : ℕ → ℕ → Type 0) (xs vs : List ℕ) (k : ℕ) → lengt
     → ((j : ℕ) → j < 4 * k → P j (get_or xs j 0)) → ((i : ℕ) → i < 4 → P (4 * k + i) (get_or vs i 0))
     → (j : ℕ) → j < 4 * (k + 1) → P j (get_or (put_chunk (4 * k) xs vs) j 0)
 stored P xs vs k len_vs in_xs before here = stored_pairs (λ j x y. P j x) xs xs vs vs k len_vs len_vs in_xs in_xs before here
+
+-- the words of a row before place n are f of what they first were, and those from it on are as they first were
+pub record MappedTo (f : ℕ → ℕ) (first xs : List ℕ) (n : ℕ) : Type 0 where
+  pub done : (j : ℕ) → j < n → get_or xs j 0 ≡ f (get_or first j 0)
+  pub rest : SameFrom first xs n
+
+-- after a chunk is stored in its place
+pub MappedTo-put_chunk : (f : ℕ → ℕ) (first xs vs : List ℕ) (k : ℕ) → length vs ≡ 4 → 4 * k + 4 ≤ length xs → MappedTo f first xs (4 * k)
+    → ((i : ℕ) → i < 4 → get_or vs i 0 ≡ f (get_or xs (4 * k + i) 0)) → MappedTo f first (put_chunk (4 * k) xs vs) (4 * (k + 1))
+MappedTo-put_chunk f first xs vs k len_vs in_xs before here = record {
+  done = stored (λ j x. x ≡ f (get_or first j 0)) xs vs k len_vs in_xs before.done
+      (λ i h. here i h ∙ ap f (before.rest (4 * k + i) 0 (omega arith)));
+  rest = λ j d h. get_or-put_chunk_above (4 * k) xs vs j d (omega arith) ∙ before.rest j d (omega arith);
+}
 
 -- the words of two rows before place n are as P says, and those from it on are as they first were
 pub record PairsTo (P : ℕ → ℕ → ℕ → Type 0) (first_xs first_ys xs ys : List ℕ) (n : ℕ) : Type 0 where

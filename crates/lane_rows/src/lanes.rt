@@ -4,6 +4,7 @@ ghost use Rattle.std.specs.Prelude.{◌≡◌, ℕ, ◌+◌, ◌-◌, ◌*◌, �
 ghost use Rattle.lane_rows.specs.Butterflies.{IsButterfly, IsButterflyBack};
 ghost use Rattle.lane_rows.specs.Lanes.{HasLanes, LanesBelow};
 
+use crate::words;
 use std::simd::prelude::*;
 
 /// The number of words that a vector holds.
@@ -156,6 +157,23 @@ fn scale_lazy(q: u64, w: u64, shoup: u64, x: u64x4) -> u64x4
     wrapped_difference(low_product(x, splat(w)), multiple)
 }
 
+/// As `words::scale_lazy`, word by word: the processor has a product of two words, and its lanes have not.
+#[inline(always)]
+fn scale_words(q: u64, w: u64, shoup: u64, x: u64x4) -> u64x4
+    requires modulus { (0 < q) × (q < 2 ^ 61) }
+    requires quotient { shoup ≡ w * 2 ^ 64 / q }
+    ensures congruent { (i : ℕ) → i < LANES → slice_index result i % q ≡ (w * slice_index x i) % q }
+    ensures below { LanesBelow (2 * q) result }
+{
+    let [a, b, c, d] = x.to_array();
+    u64x4::from_array([
+        words::scale_lazy(q, w, shoup, a),
+        words::scale_lazy(q, w, shoup, b),
+        words::scale_lazy(q, w, shoup, c),
+        words::scale_lazy(q, w, shoup, d),
+    ])
+}
+
 /// As `words::scale`.
 #[inline(always)]
 pub fn scale(q: u64, w: u64, shoup: u64, x: u64x4) -> u64x4
@@ -188,7 +206,7 @@ pub fn butterfly(q: u64, w: u64, shoup: u64, x: u64x4, y: u64x4) -> (u64x4, u64x
     ensures differences_below { LanesBelow (4 * q) result.1 }
 {
     let x = reduce_once(2 * q, x);
-    let product = scale_lazy(q, w, shoup, y);
+    let product = scale_words(q, w, shoup, y);
     (sum(x, product), difference(sum(x, splat(2 * q)), product))
 }
 
@@ -207,6 +225,6 @@ pub fn butterfly_back(q: u64, w: u64, shoup: u64, x: u64x4, y: u64x4) -> (u64x4,
     let raised = sum(x, splat(2 * q));
     (
         reduce_once(2 * q, sum(x, y)),
-        scale_lazy(q, w, shoup, difference(raised, y)),
+        scale_words(q, w, shoup, difference(raised, y)),
     )
 }

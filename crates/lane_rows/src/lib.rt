@@ -13,4 +13,4 @@ mod tests;
 mod words;
 
 pub use pairs::{butterflies, butterflies_back};
-pub use rows::{add_row, fold_row, neg_row, scale_row, sub_row};
+pub use rows::{add_row, fold_row, neg_row, scale_row, scale_row_in_place, sub_row};

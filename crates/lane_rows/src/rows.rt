@@ -143,6 +143,35 @@ fn scale_chunks(q: u64, w: u64, shoup: u64, a: &[u64], out: &mut [u64]) -> usize
     chunks * LANES
 }
 
+/// Replaces each word, of any size, by the residue of its product with w, by Shoup's method.
+pub fn scale_row_in_place(q: u64, w: u64, shoup: u64, a: &mut [u64])
+    requires modulus { (0 < q) × (q < 2 ^ 61) }
+    requires quotient { shoup ≡ w * 2 ^ 64 / q }
+    ensures residues { (i : ℕ) → i < length a.old → slice_index a.new i ≡ (w * slice_index a.old i) % q }
+    ensures below { RowBelow q a.new }
+{
+    let whole = scale_chunks_in_place(q, w, shoup, a);
+    for i in whole..a.len() {
+        a[i] = words::scale(q, w, shoup, a[i]);
+    }
+}
+
+fn scale_chunks_in_place(q: u64, w: u64, shoup: u64, a: &mut [u64]) -> usize
+    requires modulus { (0 < q) × (q < 2 ^ 61) }
+    requires quotient { shoup ≡ w * 2 ^ 64 / q }
+    ensures whole { result ≡ length a.old / LANES * LANES }
+    ensures residues { (i : ℕ) → i < result → slice_index a.new i ≡ (w * slice_index a.old i) % q }
+    ensures rest { SameFrom a.old a.new result }
+{
+    let chunks = a.len() / LANES;
+    for k in 0..chunks {
+        let from = LANES * k;
+        let products = lanes::scale(q, w, shoup, load(a, from));
+        products.copy_to_slice(&mut a[from..]);
+    }
+    chunks * LANES
+}
+
 /// Replaces each word below 4q by its residue.
 pub fn fold_row(q: u64, a: &mut [u64])
     requires modulus { (0 < q) × (q < 2 ^ 61) }

@@ -96,6 +96,8 @@ fn check_products(rt: &impl Abort, q: u64, w: u64, a: &mut [u64], out: &mut [u64
         let product = u128::from(w) * u128::from(a[i]) % u128::from(q);
         assert_eq!(rt; u128::from(out[i]), product, "{q}, {w} at {i}");
     }
+    scale_row_in_place(q, w, quotient(q, w), a);
+    assert!(rt; &*a == &*out, "{q}, {w} in place");
 }
 
 // `lo` and `hi` become the pairs of the words of `x` and `y`.
