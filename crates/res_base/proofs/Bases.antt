@@ -24,7 +24,8 @@ pub AllAboveOne-from_IsBase : (qs : List ℕ) → IsBase qs → AllAboveOne qs
 AllAboveOne-from_IsBase qs base i within = let three = (IsModulus-from_IsBase qs base i within).from_three in omega arith
 
 -- ---- the products of the others
-HasInverse-mod : (q r : ℕ) → 0 < q → HasInverse q r → HasInverse q (r % q)
+-- an inverse modulo q is one of the residue
+pub HasInverse-mod : (q r : ℕ) → 0 < q → HasInverse q r → HasInverse q (r % q)
 HasInverse-mod q r positive h = record {
   inverse = h.inverse;
   is_one = Congruent-trans q (Congruent-mul q (Congruent-refl q h.inverse) (Congruent-mod q r positive)) h.is_one;

@@ -13,7 +13,8 @@ use Rattle.ring_law.proofs.Sums.{sum_below_add, sum_below_ext, sum_below_neg, su
 use Rattle.ring_law.proofs.Congruence.{Congruent-equal, Congruent-mul, Congruent-refl, Congruent-sum_below, Congruent-sym, Congruent-trans}
 use Rattle.ring_law.proofs.PowerCoefficients.{minus_one_to_even, minus_one_to_odd, sum_against_product, sum_against_turn}
 
-pow-pow : (x a b : ℕ) → x ^ (a * b) ≡ (x ^ a) ^ b
+-- a power of a power
+pub pow-pow : (x a b : ℕ) → x ^ (a * b) ≡ (x ^ a) ^ b
 pow-pow x a zero = ap (λ y. x ^ y) (none a) ∙ pow-zero x ∙ sym (pow-zero (x ^ a))
   where
     none : (a : ℕ) → a * 0 ≡ 0

@@ -18,6 +18,10 @@ listed_polynomial a k = slice_index_or a k (pos 0)
 abbrev pub word_at : List (List ℕ) → ℕ → ℕ → ℕ
 word_at rows i k = slice_index (slice_index_or rows i []) k
 
+-- each of the n words of the row is below q
+abbrev pub IsReduced : ℕ → ℕ → List ℕ → Type 0
+IsReduced n q row = (k : ℕ) → k < n → slice_index row k < q
+
 -- one row represents x modulo q: word k is the residue of coefficient x_k
 abbrev pub RowRepresents : ℕ → ℕ → List ℕ → (ℕ → ℤ) → Type 0
 RowRepresents n q row x = (k : ℕ) → k < n → slice_index row k ≡ residue q (x k)
