@@ -1,0 +1,4 @@
+pub mod Blocks
+pub mod PowersReversed
+pub mod LayerValues
+pub mod Steps

@@ -1,0 +1,4 @@
+pub mod Butterflies
+pub mod Parameters
+pub mod Roots
+pub mod Tables

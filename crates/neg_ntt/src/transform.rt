@@ -1,0 +1,181 @@
+//! The transform of rows of residues, and the way back.
+
+ghost use Rattle.std.specs.Prelude.{◌≡◌, ℕ, ℤ, ◌+◌, ◌-◌, ◌*◌, ◌%◌, ◌^◌, ◌<◌, ◌≤◌, ◌≢◌, ◌↔◌, List, length, slice_index, take, drop, IfOk, Err};
+ghost use Rattle.ring_law.specs.Rows.{IsReduced, RowRepresents, row_polynomial};
+ghost use Rattle.lane_rows.specs.Rows.{RowBelow};
+ghost use Rattle.lane_rows.specs.Butterflies.{IsButterfly, IsButterflyBack};
+ghost use Rattle.neg_ntt.specs.Butterflies.{EachBlock};
+ghost use Rattle.neg_ntt.specs.Parameters.{AreParameters, IsDegree, IsTransformBy, inverse_root, layer_half, layer_root};
+
+use crate::layers::{forward_layer, inverse_layer};
+use crate::roots::powers_reversed;
+use lane_rows::{fold_row, scale_row_in_place};
+use std::alloc::{AllocError, Global};
+use std::marker::Model;
+use thiserror::Error;
+use word_mod::{Factor, Modulus};
+
+/// Why there is no transform.
+#[derive(Debug, Drop, PartialEq, Eq, Error)]
+pub enum TransformFault {
+    /// The power of the root with the degree as exponent is not -1.
+    #[error("no root")]
+    NoRoot,
+    #[error("memory")]
+    Memory,
+}
+
+/// The transform of degree N modulo q: its tables of powers of the root and of the root's inverse, each in the order in
+/// which the layers take them, and the inverse of N.
+#[derive(Drop)]
+pub struct Transform<const N: usize> {
+    modulus: Modulus,
+    root: u64,
+    log_degree: u32,
+    roots: Vec<Factor>,
+    inverse_roots: Vec<Factor>,
+    inverse_degree: Factor,
+}
+
+impl<const N: usize> Model for Transform<N> {
+    ghost use Rattle.neg_ntt.specs.Parameters.{Parameters};
+
+    ghost Value = { Parameters };
+
+    ghost use Rattle.neg_ntt.specs.Tables.{AreTables};
+
+    ghost view = { λ t. record { modulus = t.modulus; root = t.root; log_degree = t.log_degree } };
+
+    ghost invariant = { λ t. AreTables N (record { modulus = t.modulus; root = t.root; log_degree = t.log_degree })
+        t.roots.items t.inverse_roots.items t.inverse_degree };
+}
+
+impl<const N: usize> Transform<N> {
+    /// The transform of degree N modulo q, the value of `m`, with the root `psi`. The fault is NoRoot where `psi^N` is not -1
+    /// modulo q. No modulus has to be prime.
+    pub fn new(alloc: Global, m: &Modulus, psi: u64) -> Result<Transform<N>, TransformFault>
+        requires degree { IsDegree N }
+        requires root_below { psi < m.now }
+        ensures modulus { IfOk result (λ t. t.modulus ≡ m.now) }
+        ensures root { IfOk result (λ t. t.root ≡ psi) }
+        ensures power { IfOk result (λ t. N ≡ 2 ^ t.log_degree) }
+        ensures no_root { (result ≡ Err TransformFault.NoRoot) ↔ (psi ^ N % m.now ≢ m.now - 1) }
+    {
+        if m.pow(psi, N as u64) != m.neg(m.reduce(1)) {
+            return Err(TransformFault::NoRoot);
+        }
+        match Self::with_root(alloc, m, psi) {
+            Ok(transform) => Ok(transform),
+            Err(_) => Err(TransformFault::Memory),
+        }
+    }
+
+    /// The tables of a root whose power is -1.
+    fn with_root(alloc: Global, m: &Modulus, psi: u64) -> Result<Transform<N>, AllocError>
+        requires degree { IsDegree N }
+        requires root_below { psi < m.now }
+        requires minus_one { psi ^ N % m.now ≡ m.now - 1 }
+        ensures modulus { IfOk result (λ t. t.modulus ≡ m.now) }
+        ensures root { IfOk result (λ t. t.root ≡ psi) }
+        ensures power { IfOk result (λ t. N ≡ 2 ^ t.log_degree) }
+    {
+        let log_degree = log_of(N);
+        let inverse_root = m.pow(psi, 2 * N as u64 - 1);
+        let half = m.value() / 2 + 1;
+        Ok(Transform {
+            modulus: *m,
+            root: psi,
+            log_degree,
+            roots: powers_reversed(alloc, m, log_degree, psi)?,
+            inverse_roots: powers_reversed(alloc, m, log_degree, inverse_root)?,
+            inverse_degree: m.factor(m.pow(half, log_degree as u64)),
+        })
+    }
+
+    /// The modulus q of the rows. Whoever asks for it learns what the root and the degree are known to be.
+    pub fn modulus(&self) -> &Modulus
+        ensures value { result.now ≡ self.now.modulus }
+        ensures parameters { AreParameters N self.now }
+    {
+        &self.modulus
+    }
+
+    /// Replaces the N coefficients of a polynomial, residues modulo q, by its transform: the values at the odd powers of the
+    /// root, in bit-reversed order. Layer by layer each block of the row becomes two (Cooley and Tukey 1965).
+    pub fn forward(&self, row: &mut [u64; N])
+        requires { IsReduced N self.now.modulus row.old }
+        ensures transform { (a : ℕ → ℤ) → RowRepresents N self.now.modulus row.old a → IsTransformBy self.now row.new a }
+        ensures reduced { IsReduced N self.now.modulus row.new }
+    {
+        for s in 0..self.log_degree {
+            self.split_blocks(s, row);
+        }
+        fold_row(self.modulus.value(), row);
+    }
+
+    /// Replaces a transform, N residues modulo q in bit-reversed order, by the coefficients of the one polynomial modulo q
+    /// that has it (Gentleman and Sande 1966).
+    pub fn inverse(&self, row: &mut [u64; N])
+        requires { IsReduced N self.now.modulus row.old }
+        ensures transform { IsTransformBy self.now row.old (row_polynomial row.new) }
+        ensures unique { (a : ℕ → ℤ) → IsTransformBy self.now row.old a → RowRepresents N self.now.modulus row.new a }
+        ensures reduced { IsReduced N self.now.modulus row.new }
+    {
+        let mut s = self.log_degree;
+        while s > 0 {
+            s -= 1;
+            self.join_blocks(s, row);
+        }
+        let Factor { w, shoup } = self.inverse_degree;
+        scale_row_in_place(self.modulus.value(), w, shoup, row);
+    }
+
+    /// The layer that makes two blocks of each of `2^s`.
+    fn split_blocks(&self, s: u32, row: &mut [u64])
+        requires layer { s < self.now.log_degree }
+        requires len { length row.old ≡ N }
+        requires below { RowBelow (4 * self.now.modulus) row.old }
+        ensures pairs { EachBlock (λ i. IsButterfly self.now.modulus (layer_root self.now.root self.now s i))
+            (2 ^ s) (layer_half self.now s) row.old row.new }
+        ensures below { RowBelow (4 * self.now.modulus) row.new }
+    {
+        let roots = layer_factors(&self.roots, s);
+        forward_layer(self.modulus.value(), roots, N >> (s + 1), row);
+    }
+
+    /// The layer that makes `2^s` blocks, each of two.
+    fn join_blocks(&self, s: u32, row: &mut [u64])
+        requires layer { s < self.now.log_degree }
+        requires len { length row.old ≡ N }
+        requires below { RowBelow (2 * self.now.modulus) row.old }
+        ensures pairs { EachBlock (λ i. IsButterflyBack self.now.modulus (layer_root (inverse_root N self.now) self.now s i))
+            (2 ^ s) (layer_half self.now s) row.old row.new }
+        ensures below { RowBelow (2 * self.now.modulus) row.new }
+    {
+        let roots = layer_factors(&self.inverse_roots, s);
+        inverse_layer(self.modulus.value(), roots, N >> (s + 1), row);
+    }
+}
+
+/// The factors of the layer with `2^s` roots.
+fn layer_factors(powers: &[Factor], s: u32) -> &[Factor]
+    requires layer { s ≤ 14 }
+    requires len { 2 * 2 ^ s ≤ length powers.now }
+    ensures { result.now ≡ take (2 ^ s) (drop (2 ^ s) powers.now) }
+{
+    let count = 1 << s;
+    &powers[count..2 * count]
+}
+
+/// The logarithm of a power of two.
+fn log_of(n: usize) -> u32
+    requires { IsDegree n }
+    ensures power { n ≡ 2 ^ result }
+    ensures to_limit { result ≤ 15 }
+{
+    let mut log = 2;
+    while 1 << log < n {
+        log += 1;
+    }
+    log
+}
