@@ -1,0 +1,10 @@
+pub mod Lists
+pub mod Making
+pub mod Combining
+pub mod Conversions
+pub mod Words
+pub mod Columns
+pub mod LiftedRows
+pub mod FlooredRows
+pub mod ExactRows
+pub mod DroppedRows

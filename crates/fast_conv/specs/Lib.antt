@@ -1,0 +1,2 @@
+pub mod Converters
+pub mod Rows
