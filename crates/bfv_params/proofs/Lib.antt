@@ -1,0 +1,4 @@
+pub mod Tables
+pub mod Coprimality
+pub mod Ciphers
+pub mod ScaledPlaintexts
