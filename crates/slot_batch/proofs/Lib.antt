@@ -1,0 +1,4 @@
+pub mod Digits
+pub mod PlaceSteps
+pub mod Rows
+pub mod Plaintexts
