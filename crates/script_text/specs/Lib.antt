@@ -1,2 +1,10 @@
 pub mod Reading
 pub mod Values
+pub mod Names
+pub mod Scripts
+pub mod Keywords
+pub mod Grammar
+pub mod Drafts
+pub mod Value
+pub mod Printed
+pub mod Evaluating

@@ -1,6 +1,7 @@
-// What a text of values is refused with.
+// What a text is refused with.
 ghost use Rattle.std.specs.Prelude.{◌≡◌};
 ghost use Rattle.script_text.specs.declared.faults.ValueFault.TheVariants as fault;
+ghost use Rattle.script_text.specs.declared.faults.ScriptFault.TheVariants as script_fault;
 
 use std::alloc::{AllocError, AllocFailed};
 
@@ -40,5 +41,43 @@ impl<T: Drop> From<AllocFailed<T>> for ValueFault {
 
     fn from(_: AllocFailed<T>) -> Self {
         ValueFault::Memory
+    }
+}
+
+/// What is wrong with a script, and in which line, counted from 1.
+#[derive(Clone, Copy, Debug, PartialEq, Eq)]
+pub enum ScriptPlace {
+    /// The line has none of the forms, stands out of order, or is missed at the end.
+    Syntax(u32),
+    /// A name that the line defines was defined before, or one that it uses wasn't.
+    Name(u32),
+    /// An operand doesn't have the parts that the operation takes.
+    Shape(u32),
+    /// There are more than 1,048,576 bytes, 64 inputs or 4,096 steps.
+    TooLong,
+}
+
+/// Why a script wasn't read.
+#[derive(Clone, Copy, Debug, PartialEq, Eq)]
+pub enum ScriptFault {
+    /// The text is wrong.
+    Bad(ScriptPlace),
+    /// There was no memory.
+    Memory,
+}
+
+impl From<AllocError> for ScriptFault {
+    ghost from_gives = { λ _ e. e ≡ script_fault.Memory };
+
+    fn from(_: AllocError) -> Self {
+        ScriptFault::Memory
+    }
+}
+
+impl<T: Drop> From<AllocFailed<T>> for ScriptFault {
+    ghost from_gives = { λ _ e. e ≡ script_fault.Memory };
+
+    fn from(_: AllocFailed<T>) -> Self {
+        ScriptFault::Memory
     }
 }

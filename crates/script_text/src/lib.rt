@@ -1,10 +1,24 @@
-//! The texts that people write and read: lists of values.
+//! The texts that people write and read: lists of values, and scripts of operations on them.
 #![tactic(auto)]
 
+mod draft;
+mod evaluator;
 mod faults;
+mod keyword;
+mod name;
+mod parser;
+mod printer;
 mod reading;
+mod script;
+#[cfg(test)]
+mod tests;
 mod values;
+mod words;
 
-pub use faults::{ValueFault, ValuePlace};
+pub use evaluator::evaluate;
+pub use faults::{ScriptFault, ScriptPlace, ValueFault, ValuePlace};
+pub use parser::parse;
+pub use printer::print;
 pub use reading::read_values;
+pub use script::{InputKind, Op, Script};
 pub use values::print_values;

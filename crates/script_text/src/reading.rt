@@ -94,7 +94,8 @@ fn read_numbers(alloc: Global, text: &[u8]) -> Result<Vec<u64>, AllocError>
         .collect(alloc)
 }
 
-fn read_number(digits: &[u8]) -> u64
+/// The number that digits write, or the largest `u64` where it is larger.
+pub fn read_number(digits: &[u8]) -> u64
     ensures { result ≡ u64_saturate (written_number digits.now) }
 {
     let mut number = 0u64;

@@ -40,7 +40,8 @@ fn push_numbers(text: &mut Vec<u8>, row: &[u64]) -> Result<(), AllocError>
     Ok(())
 }
 
-fn push_number(text: &mut Vec<u8>, number: u64) -> Result<(), AllocError>
+/// The number in decimal at the end of a text.
+pub fn push_number(text: &mut Vec<u8>, number: u64) -> Result<(), AllocError>
     ensures { OnOk result (text.new.items ≡ text.old.items ++ decimal number) }
 {
     let mut buffer = Buffer::new();

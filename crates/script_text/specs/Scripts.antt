@@ -1,0 +1,98 @@
+-- Scripts: what they consist of, and what holds of every one.
+use Rattle.std.specs.Prelude.{◌≡◌, ◌≢◌, ℕ, ◌+◌, ◌*◌, ◌/◌, ◌%◌, ◌^◌, ◌-◌, ◌<◌, ◌≤◌, max, Bool, true, false, List, [], ◌∷◌, ◌++◌, length, map, fold, filter, replicate, slice_index, slice_get, All, IsTrue, Some}
+use Rattle.std.specs.List.{flat_map, AllPairs}
+use Rattle.set_table.specs.declared.SetName.{SetName}
+use Rattle.set_table.specs.declared.KeyKind.{KeyKind}
+use Rattle.set_table.specs.declared.KeyKind.TheVariants as key
+use Rattle.set_table.specs.Sets.{degree_of, plain_of}
+use Rattle.script_text.specs.Names.{is_name}
+use Rattle.script_text.specs.declared.script.InputKind.TheVariants.{Cipher, Plain}
+use Rattle.script_text.specs.declared.script.Op.{Op}
+use Rattle.script_text.specs.declared.script.Op.TheVariants.{Add, Sub, Neg, AddPlain, SubPlain, MulPlain, MulConst, Mul, Relin, Turn, Swap}
+use Rattle.script_text.specs.declared.script.Input.{Input}
+use Rattle.script_text.specs.declared.script.Step.{Step}
+
+-- A script: its parameter set, its inputs and steps in order, and the number of the register that it puts out. The cipher inputs and
+-- then the steps are the registers, numbered from 0; the plain inputs are numbered from 0 by themselves.
+pub record Script : Type 0 where
+  pub set : SetName
+  pub inputs : List Input
+  pub steps : List Step
+  pub output : ℕ
+
+abbrev pub is_cipher : Input → Bool
+is_cipher input = elim input.kind as (λ _. Bool) [ Cipher ↦ true | Plain ↦ false ]
+
+abbrev pub is_plain : Input → Bool
+is_plain input = elim input.kind as (λ _. Bool) [ Cipher ↦ false | Plain ↦ true ]
+
+abbrev pub cipher_inputs : List Input → List Input
+cipher_inputs = filter is_cipher
+
+abbrev pub plain_inputs : List Input → List Input
+plain_inputs = filter is_plain
+
+-- what all registers hold, if the cipher inputs hold these and each operation makes one more of what the registers before it hold
+abbrev pub registers : {A : Type 0} → (List A → Op → A) → List A → List Step → List A
+registers made inputs steps = fold (λ so_far step. so_far ++ made so_far step.op ∷ []) inputs steps
+
+-- how many parts the result of an operation has, by those of the registers before it
+abbrev pub parts_made : List ℕ → Op → ℕ
+parts_made parts (Add a b) = max (slice_index parts a) (slice_index parts b)
+parts_made parts (Sub a b) = max (slice_index parts a) (slice_index parts b)
+parts_made parts (Neg a) = slice_index parts a
+parts_made parts (AddPlain a p) = slice_index parts a
+parts_made parts (SubPlain a p) = slice_index parts a
+parts_made parts (MulPlain a p) = slice_index parts a
+parts_made parts (MulConst a k) = slice_index parts a
+parts_made parts (Mul a b) = 3
+parts_made parts (Relin a) = 2
+parts_made parts (Turn a k) = 2
+parts_made parts (Swap a) = 2
+
+-- the parts of each register; a cipher input has two
+abbrev pub parts_of : List Input → List Step → List ℕ
+parts_of inputs steps = registers parts_made (replicate (length (cipher_inputs inputs)) 2) steps
+
+-- an operation whose operands are among these registers and so many plain inputs, of the parts that it takes, with its number in range
+abbrev pub Fits : SetName → ℕ → List ℕ → Op → Type 0
+Fits set plains parts (Add a b) = (a < length parts) × (b < length parts)
+Fits set plains parts (Sub a b) = (a < length parts) × (b < length parts)
+Fits set plains parts (Neg a) = a < length parts
+Fits set plains parts (AddPlain a p) = (a < length parts) × (p < plains)
+Fits set plains parts (SubPlain a p) = (a < length parts) × (p < plains)
+Fits set plains parts (MulPlain a p) = (a < length parts) × (p < plains)
+Fits set plains parts (MulConst a k) = (a < length parts) × (k < plain_of set)
+Fits set plains parts (Mul a b) = (slice_get parts a ≡ Some 2) × (slice_get parts b ≡ Some 2)
+Fits set plains parts (Relin a) = slice_get parts a ≡ Some 3
+Fits set plains parts (Turn a k) = (slice_get parts a ≡ Some 2) × (0 < k) × (k < degree_of set / 2)
+Fits set plains parts (Swap a) = slice_get parts a ≡ Some 2
+
+-- the names that are defined, in order
+abbrev pub names_of : List Input → List Step → List (List ℕ)
+names_of inputs steps = map (λ input. input.name) inputs ++ map (λ step. step.name) steps
+
+-- every operation fits the registers before it
+abbrev pub AllFit : SetName → ℕ → List ℕ → List Step → Type 0
+AllFit set plains parts [] = Unit {0}
+AllFit set plains parts (step ∷ steps) = Fits set plains parts step.op × AllFit set plains (parts ++ parts_made parts step.op ∷ []) steps
+
+-- what holds of every script
+pub record IsSound (script : Script) : Type 0 where
+  pub few_inputs : length script.inputs ≤ 64
+  pub few_steps : length script.steps ≤ 4096
+  pub names : All (λ name. IsTrue (is_name name)) (names_of script.inputs script.steps)
+  pub distinct : AllPairs (λ name later. name ≢ later) (names_of script.inputs script.steps)
+  pub fit : AllFit script.set (length (plain_inputs script.inputs)) (replicate (length (cipher_inputs script.inputs)) 2) script.steps
+  pub output : script.output < length (cipher_inputs script.inputs) + length script.steps
+
+-- the switching keys that an operation needs, each with its Galois element, where n is the degree
+abbrev pub keys_needed : ℕ → Op → List (KeyKind × ℕ)
+keys_needed n (Relin a) = (key.Relin, 0) ∷ []
+keys_needed n (Turn a k) = (key.Turn, 3 ^ k % (2 * n)) ∷ []
+keys_needed n (Swap a) = (key.Turn, 2 * n - 1) ∷ []
+keys_needed n op = []
+
+-- the keys that a script needs, step by step
+abbrev pub needs_of : Script → List (KeyKind × ℕ)
+needs_of script = flat_map (λ step. keys_needed (degree_of script.set) step.op) script.steps
