@@ -1,0 +1,13 @@
+pub mod Ratios
+pub mod Registers
+pub mod Limits
+pub mod SetNumbers
+pub mod Constants
+pub mod Firsts
+pub mod Comparisons
+pub mod BoundLists
+pub mod Scripts
+pub mod Operands
+pub mod Steps
+pub mod Verdicts
+pub mod VerdictLaws

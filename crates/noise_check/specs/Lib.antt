@@ -1,0 +1,5 @@
+pub mod ExactBounds
+pub mod RoundedBounds
+pub mod Operands
+pub mod Numbers
+pub mod Verdicts
