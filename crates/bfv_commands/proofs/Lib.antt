@@ -6,11 +6,13 @@ pub mod FileTests
 pub mod Contents
 pub mod FileTexts
 pub mod SeedFiles
+pub mod Fronts
 pub mod ValueTexts
 pub mod DrawnRows
 pub mod Decrypting
 pub mod FreshFiles
 pub mod Planning
+pub mod Checking
 pub mod Answering
 pub mod Outputs
 pub mod MadeItems

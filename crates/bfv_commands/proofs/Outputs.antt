@@ -1,8 +1,8 @@
 -- The output of a plan: its operands, and what is said of the bytes that are made for it.
 use Rattle.std.proofs.Common.{◌≡◌, ◌≢◌, ◌⊎◌, inl, inr, ℕ, List, refl, sym, ◌∙◌, ap, subst}
-use Rattle.std.specs.Prelude.{Bool, true, false, Option, Some, None, Result, Ok, Err, IsOk, if◌then◌else◌}
-use Rattle.std.specs.FinMap as map
+use Rattle.std.specs.Prelude.{Bool, ◌&&◌, nat_lt, length, is_none, true, false, Option, Some, None, Result, Ok, Err, IsOk, if◌then◌else◌}
 use Rattle.outer_io.specs.Store.{Files, file}
+use Rattle.outer_io.specs.Sink.{SinkState}
 use Rattle.set_table.specs.declared.SetName.{SetName}
 use Rattle.set_table.specs.declared.SetName.TheVariants.{One16}
 use Rattle.bfv_model.specs.declared.file_kind.FileKind.{FileKind}
@@ -10,16 +10,22 @@ use Rattle.bfv_model.specs.declared.file_kind.FileKind.TheVariants.{Secret, Publ
 use Rattle.bfv_model.specs.FileText.{FileContent}
 use Rattle.bfv_model.specs.FileTests.{content_at}
 use Rattle.bfv_model.specs.DrawnFiles.{drawn_secret_file, drawn_public_file}
-use Rattle.command_words.specs.Form.{form_of, out_word}
+use Rattle.bound_num.specs.declared.Bound.{Bound}
+use Rattle.set_table.specs.Sets.{special_of}
+use Rattle.script_text.specs.Scripts.{Script, needs_of}
+use Rattle.noise_check.specs.declared.verdict.Verdict.{Verdict}
+use Rattle.noise_check.specs.declared.verdict.Verdict.TheVariants as verdict
+use Rattle.noise_check.specs.Verdicts.{fresh_bounds, verdict_of}
+use Rattle.command_words.specs.Form.{form_of}
 use Rattle.command_words.specs.Line.{word_at}
 use Rattle.command_words.specs.declared.form.Form.{Form}
 use Rattle.command_words.specs.declared.form.Form.TheVariants as form
 use Rattle.command_words.specs.declared.status.Status.{Status}
-use Rattle.command_words.specs.declared.status.Status.TheVariants.{Done, Memory, ReadFault, WriteFault, NotOurs}
-use Rattle.command_model.specs.Plan.{Output, file_with, sealing, values, plan, plan_of_form, plan_of_secret, plan_of_public, plan_of_encrypt, plan_of_decrypt, operand, taken, is_taken, seed_operand, values_operand, seed_word, and_then, out_name, IsReached, IsWritten, IsValuesText}
-use Rattle.command_model.specs.Answers.{IsDone, IsFault, Told}
+use Rattle.command_words.specs.declared.status.Status.TheVariants.{Done, Memory, ReadFault, WriteFault, NotOurs, NoSpecial}
+use Rattle.command_model.specs.Plan.{Output, file_with, sealing, values, accepted, plan, script_operand, checked, accepted_or_noisy, bound_at, plan_of_form, plan_of_secret, plan_of_public, plan_of_encrypt, plan_of_decrypt, operand, taken, is_taken, seed_operand, values_operand, seed_word, and_then, out_name, IsReached, IsWritten, IsValuesText}
+use Rattle.command_model.specs.Answers.{AreLeft, IsFault, Told}
 use Rattle.bfv_commands.specs.Decrypted.{decrypted_values}
-use Rattle.bfv_commands.specs.Stages.{IsMade, PlannedBytes}
+use Rattle.bfv_commands.specs.Stages.{Announced, AreWritten, IsLeftToPut, IsMade}
 use Rattle.bfv_commands.proofs.Contents.{content_set}
 use Rattle.bfv_commands.proofs.Decrypting.{length-decrypted_values, decrypted_values_below}
 
@@ -93,6 +99,19 @@ planned_values words files output is =
     let cipher = both_steps (operand words files Cipher 2) (λ cipher. Ok (values secret.0 cipher)) output secret.1.1 in
     record { secret = secret.0; cipher = cipher.0; secret_is = secret.1.0; cipher_is = cipher.1.0; output_is = let last = cipher.1.1 in cc }
 
+-- a script that isn't refused gives a bound
+pub checked_bound : (script : Script) (output : Output) → checked script ≡ Ok output → (bound : Bound) × (output ≡ accepted bound)
+checked_bound script output is = of_test (nat_lt 0 (length (needs_of script)) && is_none (special_of script.set)) is
+  where
+    of_verdict : (verdict : Verdict) → accepted_or_noisy script verdict ≡ Ok output → (bound : Bound) × (output ≡ accepted bound)
+    of_verdict (verdict.Accepted bounds) is = (bound_at bounds script.output, cc)
+    of_verdict (verdict.TooNoisy line bound limit) is = absurd (cc)
+
+    of_test : (test : Bool) → (if test then Err (NoSpecial script.set) else accepted_or_noisy script (verdict_of script (fresh_bounds script))) ≡ Ok output
+        → (bound : Bound) × (output ≡ accepted bound)
+    of_test true is = absurd (cc)
+    of_test false is = of_verdict (verdict_of script (fresh_bounds script)) is
+
 -- ---- operands that are files
 -- what was taken of a file
 pub record TakenFile (kind : FileKind) (file : Option (List ℕ)) (content : FileContent) : Type 0 where
@@ -139,6 +158,10 @@ made_written (Some form.Public) words files output is bytes =
 made_written (Some form.Encrypt) words files output is bytes =
     let p = planned_cipher words files output is in
     written_as output (sealing p.public p.listed p.seed) bytes p.output_is (λ made. made)
+made_written (Some form.Check) words files output is bytes =
+    let script = both_steps (script_operand words files 1) checked output is in
+    let bound = checked_bound script.0 output script.1.1 in
+    written_as output (accepted bound.0) bytes bound.1 (λ made. made)
 made_written (Some form.Decrypt) words files output is bytes =
     let p = planned_values words files output is in
     let found = taken_file Cipher 2 (file files (word_at words 2)) p.cipher p.cipher_is in
@@ -146,30 +169,71 @@ made_written (Some form.Decrypt) words files output is bytes =
     (values_written p.secret p.cipher bytes (taken_set Cipher (file files (word_at words 2)) p.cipher found))
 
 -- ---- what is told
--- a command up to its line, told at Ok, is done as the clauses say
-done_of_run : (form : Form) (words : List (List ℕ)) (before : Files) (after : Option Files) → form_of words ≡ Some form
-    → (bytes : List ℕ) × (PlannedBytes (plan words before) bytes × (after ≡ Some (map.insert before (word_at words (out_word form)) bytes))) → IsDone words before after
-done_of_run form words before after is told =
+-- the files after a command with the planned output
+left_after : (words : List (List ℕ)) (before : Files) (after : Option Files) (name : Option (List ℕ)) (output : Output) → plan words before ≡ Ok output
+    → AreWritten name (plan words before) before after → AreLeft output name before after
+left_after words before after None output is same = same
+left_after words before after (Some name) output is told =
     let p = told.1.0 in
-    record {
-      output = p.output;
-      planned = p.is;
-      name = word_at words (out_word form);
-      named = ap (λ (f : Option Form). out_name f words) is;
-      bytes = told.0;
-      written = made_written (form_of words) words before p.output p.is told.0 p.made;
-      files = told.1.1;
+    let same : p.output ≡ output = let planned = p.is in cc in
+    (told.0, (subst (λ (o : Output). IsWritten o told.0) same (made_written (form_of words) words before p.output p.is told.0 p.made), told.1.1))
+
+-- what was written was planned
+written_planned : (words : List (List ℕ)) (told : Option Files) (before : Files) (after : Option Files) (name line : Option (List ℕ)) (planned : Result Output Status)
+    → line ≡ None → IsLeftToPut name words told line → AreWritten name planned before after → (output : Output) × (planned ≡ Ok output)
+written_planned words told before after None line planned none left same = let some = left.1.0 in absurd (cc)
+written_planned words told before after (Some name) line planned none left written = (written.1.0.output, written.1.0.is)
+
+-- a command that wrote the file OUT is done as the clauses say
+pub told_done : (form : Form) (words : List (List ℕ)) (told_files : Option Files) (before : Files) (after : Option Files) (line : Option (List ℕ)) → form_of words ≡ Some form
+    → line ≡ None → IsLeftToPut (out_name (Some form) words) words told_files line → AreWritten (out_name (Some form) words) (plan words before) before after → Told words before after Done
+told_done form words told_files before after line is none left told =
+    let found = written_planned words told_files before after (out_name (Some form) words) line (plan words before) none left told in
+    let output = found.0 in
+    let planned = found.1 in record {
+      done = λ _. record {
+        output = output;
+        planned = planned;
+        files = left_after words before after (out_name (form_of words) words) output planned (subst (λ (f : Option Form). AreWritten (out_name f words) (plan words before) before after) (sym is) told);
+      };
+      unchanged = λ not. absurd (not refl);
+      refused = λ not. absurd (not refl);
+      write_fault = λ fault. absurd (cc);
+      read_fault = λ word fault. absurd (cc);
     }
 
-pub told_done : (form : Form) (words : List (List ℕ)) (before : Files) (after : Option Files) → form_of words ≡ Some form
-    → (bytes : List ℕ) × (PlannedBytes (plan words before) bytes × (after ≡ Some (map.insert before (word_at words (out_word form)) bytes))) → Told words before after Done
-told_done form words before after is told = record {
-  done = λ _. done_of_run form words before after is told;
-  unchanged = λ not. absurd (not refl);
-  refused = λ not. absurd (not refl);
-  write_fault = λ fault. absurd (cc);
-  read_fault = λ word fault. absurd (cc);
-}
+-- a command that has no file OUT changes none, and where its line isn't put whole that is no refusal
+pub told_line : (words : List (List ℕ)) (before : Files) (after : Option Files) (old_sink new_sink : SinkState) (text : List ℕ) (answer : Status) → out_name (form_of words) words ≡ None
+    → (output : Output) → plan words before ≡ Ok output → after ≡ Some before → Announced old_sink new_sink text answer → Told words before after answer
+told_line words before after old_sink new_sink text answer no_file output planned same put = elim put.why [
+  | inl done ↦ subst (Told words before after) (sym done) record {
+    done = λ _. record {
+      output = output;
+      planned = planned;
+      files = subst (λ (name : Option (List ℕ)). AreLeft output name before after) (sym no_file) same;
+    };
+    unchanged = λ not. absurd (not refl);
+    refused = λ not. absurd (not refl);
+    write_fault = λ fault. absurd (cc);
+    read_fault = λ word fault. absurd (cc);
+  }
+  | inr other ↦ elim other [
+    | inl memory ↦ subst (Told words before after) (sym memory) record {
+      done = λ done. absurd (cc);
+      unchanged = λ _. same;
+      refused = λ _. inl tt;
+      write_fault = λ fault. absurd (cc);
+      read_fault = λ word fault. absurd (cc);
+    }
+    | inr fault ↦ subst (Told words before after) (sym fault.0) record {
+      done = λ done. absurd (cc);
+      unchanged = λ _. same;
+      refused = λ _. inl tt;
+      write_fault = λ _. subst IsOk (sym planned) refl;
+      read_fault = λ word fault. absurd (cc);
+    }
+  ]
+]
 
 -- what a refusal tells is told of the answer, which may want memory for its line
 pub told_refused : (form : Form) (words : List (List ℕ)) (before : Files) (after : Option Files) (status answer : Status) → form_of words ≡ Some form → status ≢ Done

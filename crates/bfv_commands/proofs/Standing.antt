@@ -1,6 +1,6 @@
 -- A command that is done takes the files to what the plain machine steps to.
 use Rattle.std.proofs.Common.{◌≡◌, ℕ, ◌<◌, List, [], ◌∷◌, refl, sym, ◌∙◌, ap, subst, lit<, pos}
-use Rattle.std.specs.Prelude.{Bool, true, false, ◌&&◌, ◌==◌, if◌then◌else◌, length, Option, Some, None, Ok}
+use Rattle.std.specs.Prelude.{Bool, true, false, ◌&&◌, ◌==◌, if◌then◌else◌, length, Option, Some, None, Result, Ok}
 use Rattle.std.specs.Str.{bytes_eq}
 use Rattle.std.specs.FinMap as map
 use Rattle.std.proofs.lemmas.Slice.Eq.{bytes_eq-Decides}
@@ -25,15 +25,16 @@ use Rattle.bfv_model.proofs.Ciphers.{CipherHolds-one_modulus}
 use Rattle.bfv_model.proofs.Rounding.{decryption_by_rounding}
 use Rattle.bfv_model.proofs.Rules.{cipher_bound-room}
 use Rattle.bfv_model.proofs.Files.{number_of-once}
-use Rattle.command_words.specs.Form.{form_of, out_word}
+use Rattle.command_words.specs.Form.{form_of}
 use Rattle.command_words.specs.Line.{word_at}
 use Rattle.command_words.specs.declared.form.Form.{Form}
 use Rattle.command_words.specs.declared.form.Form.TheVariants as form
-use Rattle.command_model.specs.Plan.{Output, file_with, sealing, values, plan, plan_of_form, operand, seed_word}
-use Rattle.command_model.specs.Plain.{Owner, Item, text, secret_of, sealed, State, Stands, IsItem, IsSecretOf, IsSealed, opened, same_owner, item_made, step, step_of_form}
+use Rattle.command_words.specs.declared.status.Status.{Status}
+use Rattle.command_model.specs.Plan.{Output, file_with, sealing, values, plan, plan_of_form, operand, out_name, seed_word}
+use Rattle.command_model.specs.Plain.{Owner, Item, text, secret_of, sealed, State, Stands, IsItem, IsSecretOf, IsSealed, opened, same_owner, item_made, with_item, with_item_at, step, step_of_form}
 use Rattle.command_model.proofs.Standing.{stands_with}
 use Rattle.bfv_commands.specs.Decrypted.{modulus, part, phase_residue, plaintext, decrypted_values}
-use Rattle.bfv_commands.specs.Stages.{IsMade, PlannedBytes}
+use Rattle.bfv_commands.specs.Stages.{AreWritten, IsMade}
 use Rattle.bfv_commands.proofs.Decrypting.{slots-ext}
 use Rattle.bfv_commands.proofs.Outputs.{planned_secret, planned_public_key, planned_cipher, planned_values}
 use Rattle.bfv_commands.proofs.MadeItems.{operand_content, item_drawn, item_published, item_sealed}
@@ -127,21 +128,28 @@ item_of_output form.Encrypt words files state output bytes item stands planned m
     let p = planned_cipher words files output planned in
     item_sealed words files state p.public p.listed p.seed bytes item stands p.public_is p.listed_is
     (made_as output (sealing p.public p.listed p.seed) bytes p.output_is made) is
+item_of_output form.Check words files state output bytes item stands planned made is = absurd (cc)
 item_of_output form.Decrypt words files state output bytes item stands planned made is =
     let p = planned_values words files output planned in
     item_opened words files state p.secret p.cipher bytes item stands p.secret_is p.cipher_is
     (made_as output (values p.secret p.cipher) bytes p.output_is made) is
 
+-- the files that are written stand for the state with the item that is made, where there is a file OUT
+stands_written : (form : Form) (words : List (List ℕ)) (before after : Files) (state : State) (name : Option (List ℕ)) (planned : Result Output Status)
+    → plan_of_form (Some form) words before ≡ planned → AreWritten name planned before (Some after) → Stands before state
+    → Stands after (with_item_at state name (item_made form words state))
+stands_written form words before after state None planned is same stands = subst (λ (files : Files). Stands files state) (let files = same in cc) stands
+stands_written form words before after state (Some name) planned is told stands =
+    let p = told.1.0 in
+    let written : after ≡ map.insert before name told.0 = let files = told.1.1 in cc in
+    subst (λ (files : Files). Stands files (with_item state name (item_made form words state))) (sym written)
+    (stands_with before state name told.0 (item_made form words state) stands
+    (λ item at. item_of_output form words before state p.output told.0 item stands (is ∙ p.is) p.made at))
+
 -- at Done the files stand for the plain machine's next state
 pub stands_after : (form : Form) (words : List (List ℕ)) (before after : Files) (state : State) → form_of words ≡ Some form
-    → (bytes : List ℕ) × (PlannedBytes (plan words before) bytes × (◌≡◌ {A = Option Files} (Some after) (Some (map.insert before (word_at words (out_word form)) bytes))))
-    → Stands before state → Stands after (step words state)
+    → AreWritten (out_name (Some form) words) (plan words before) before (Some after) → Stands before state → Stands after (step words state)
 stands_after form words before after state is told stands =
-    let p = told.1.0 in
-    let planned : plan_of_form (Some form) words before ≡ Ok p.output = ap (λ (f : Option Form). plan_of_form f words before) (sym is) ∙ p.is in
-    let written : after ≡ map.insert before (word_at words (out_word form)) told.0 = let files = told.1.1 in cc in
-    let next : Stands (map.insert before (word_at words (out_word form)) told.0) (step_of_form (Some form) words state) =
-    stands_with before state (word_at words (out_word form)) told.0 (item_made form words state) stands
-    (λ item at. item_of_output form words before state p.output told.0 item stands planned p.made at) in
     subst (λ (f : Option Form). Stands after (step_of_form f words state)) (sym is)
-    (subst (λ (files : Files). Stands files (step_of_form (Some form) words state)) (sym written) next)
+    (stands_written form words before after state (out_name (Some form) words) (plan words before)
+    (ap (λ (f : Option Form). plan_of_form f words before) (sym is)) told stands)

@@ -1,11 +1,11 @@
 -- The values of a text, of which at most a byte too many was read.
-use Rattle.std.proofs.Common.{◌≡◌, ℕ, zero, suc, ◌+◌, ◌-◌, ◌<◌, ◌≤◌, ⊎_elim, List, [], ◌∷◌, ◌++◌, length, slice_index, take, refl, sym, ◌∙◌, ap, subst, arith, cond, length-take, lit<}
+use Rattle.std.proofs.Common.{◌≡◌, ℕ, zero, suc, ◌+◌, ◌-◌, ◌<◌, ◌≤◌, ⊎_elim, List, [], ◌∷◌, ◌++◌, length, slice_index, take, refl, sym, ◌∙◌, ap, subst, arith, cond, lit<}
 use Rattle.std.specs.Prelude.{not, nat_le, nat_lt, position, replicate, Option, Some, None, option_map, Result, Ok, Err, if◌then◌else◌}
 use Rattle.std.specs.List.{position_or_len}
 use Rattle.std.specs.Option.{option_or}
 use Rattle.std.proofs.lemmas.Bool.{cases_lt, lt-ltb}
 use Rattle.std.proofs.lemmas.Bool.Decides.{nat_tests}
-use Rattle.std.proofs.lemmas.List.{length-append, length-replicate, get_or_append_left, get_or-replicate, take_all}
+use Rattle.std.proofs.lemmas.List.{length-append, length-replicate, get_or_append_left, get_or-replicate}
 use Rattle.std.proofs.Math.Seq.{get_or-append_right}
 use Rattle.set_table.specs.declared.SetName.{SetName}
 use Rattle.set_table.specs.declared.SetName.TheVariants.{One16}
@@ -15,23 +15,14 @@ use Rattle.script_text.specs.declared.faults.ValuePlace.TheVariants.{TooLarge, T
 use Rattle.script_text.specs.Reading.{values_of, values_unless, fault_of_text, numbers}
 use Rattle.command_model.specs.Plan.{values_or_fault}
 use Rattle.bfv_commands.specs.Encrypted.{AreValues}
+use Rattle.bfv_commands.proofs.Fronts.{front_enough}
 
 -- a text that is too long is refused as such
 too_long : (text : List ℕ) (n t : ℕ) → 4194304 < length text → values_of text n t ≡ Err TooLong
 too_long text n t long = rw (lt-ltb 4194304 (length text) long) refl
 
--- it is enough to read one byte more than a text may have
 pub values_of_front : (text : List ℕ) (n t : ℕ) → values_of (take 4194305 text) n t ≡ values_of text n t
-values_of_front text n t = ⊎_elim short long (cases_lt 4194305 (length text))
-  where
-    short : 4194305 < length text → values_of (take 4194305 text) n t ≡ values_of text n t
-    short more = too_long (take 4194305 text) n t (cut more) ∙ sym (too_long text n t (omega arith))
-      where
-        cut : 4194305 < length text → 4194304 < length (take 4194305 text)
-        cut more = omega (arith, length-take 4194305 text)
-
-    long : length text ≤ 4194305 → values_of (take 4194305 text) n t ≡ values_of text n t
-    long all = ap (λ (l : List ℕ). values_of l n t) (take_all 4194305 text all)
+values_of_front text n t = front_enough (λ l. values_of l n t) 4194304 (Err TooLong) (λ l long. too_long l n t long) text
 
 -- of two parts of which none is there
 none_first : (a b : Option ValuePlace) → option_or a b ≡ None → (a ≡ None) × (b ≡ None)

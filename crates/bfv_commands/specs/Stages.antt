@@ -1,17 +1,17 @@
 -- What the stages of a command say of their results.
-use Rattle.std.specs.Prelude.{◌≡◌, ◌≢◌, ◌⊎◌, ℕ, List, Option, Some, Result, Ok, Err, OnOk, IfOk, IfErr, IsOk}
+use Rattle.std.specs.Prelude.{◌≡◌, ◌≢◌, ◌⊎◌, ℕ, List, take, Option, Some, None, Result, Ok, Err, OnOk, IfOk, IfErr, IsOk}
 use Rattle.std.specs.FinMap as map
 use Rattle.outer_io.specs.Store.{Files, StoreState, Rose}
-use Rattle.command_words.specs.Form.{out_word}
-use Rattle.command_words.specs.Line.{word_at}
+use Rattle.outer_io.specs.Sink.{SinkState, grown}
+use Rattle.command_words.specs.Line.{accepted_text}
 use Rattle.command_words.specs.Status.{parts_of}
 use Rattle.command_words.specs.declared.form.Form.{Form}
 use Rattle.command_words.specs.declared.status.Status.{Status}
-use Rattle.command_words.specs.declared.status.Status.TheVariants.{Done, Usage, ReadFault, WriteFault, MissingFile}
+use Rattle.command_words.specs.declared.status.Status.TheVariants.{Done, Usage, Memory, ReadFault, WriteFault, MissingFile}
 use Rattle.bfv_model.specs.FileText.{file_text}
 use Rattle.script_text.specs.Values.{printed_values}
-use Rattle.command_model.specs.Plan.{IsReached, IsFreshCipher, Output, file_with, sealing, values, plan}
-use Rattle.command_model.specs.Answers.{IsFault}
+use Rattle.command_model.specs.Plan.{IsReached, IsFreshCipher, Output, file_with, sealing, values, accepted, plan, out_name}
+use Rattle.command_model.specs.Answers.{IsFault, IsOutputLine}
 use Rattle.bfv_commands.specs.Decrypted.{decrypted_values}
 
 -- a result is the planned one, or an answer that no word and no file brings about
@@ -19,11 +19,12 @@ pub record Planned {A B : Type 0} (planned : Result A Status) (view : B → A) (
   pub ok : IfOk result (λ value. planned ≡ Ok (view value))
   pub err : IfErr result (λ status. IsFault status ⊎ (planned ≡ Err status))
 
--- the bytes that are written for an output, exactly
+-- the bytes that a command gives for an output, exactly
 abbrev pub IsMade : Output → List ℕ → Type 0
 IsMade (file_with content) bytes = bytes ≡ file_text content
 IsMade (sealing public listed seed) bytes = IsFreshCipher public listed seed bytes
 IsMade (values secret cipher) bytes = bytes ≡ printed_values (decrypted_values secret.words cipher.words)
+IsMade (accepted bound) bytes = bytes ≡ accepted_text bound
 
 -- the bytes are those of a planned output
 pub record PlannedBytes (planned : Result Output Status) (bytes : List ℕ) : Type 0 where
@@ -45,10 +46,25 @@ pub record Caused (IsNamed : ℕ → Type 0) (old new : StoreState) (status : St
   pub missing : (word : ℕ) → status ≡ MissingFile word → Rose old.misses new.misses
   pub word : (word : ℕ) → (parts_of status).word ≡ Some word → IsNamed word
 
--- a command up to its printed line, where files are told: at Ok the bytes of the planned output were written, and an Err is the
--- refusal, or an answer that no word and no file brings about
+-- what a command that isn't refused leaves to be put: nothing where it wrote the file OUT, and else the line of its output
+abbrev pub IsLeftToPut : Option (List ℕ) → List (List ℕ) → Option Files → Option (List ℕ) → Type 0
+IsLeftToPut (Some name) words before line = line ≡ None
+IsLeftToPut None words before line = (text : List ℕ) × ((line ≡ Some text) × IsOutputLine words before text)
+
+-- the files after a command that isn't refused: bytes of the planned output were written, or no file has changed
+abbrev pub AreWritten : Option (List ℕ) → Result Output Status → Files → Option Files → Type 0
+AreWritten (Some name) planned before after = (bytes : List ℕ) × (PlannedBytes planned bytes × (after ≡ Some (map.insert before name bytes)))
+AreWritten None planned before after = after ≡ Some before
+
+-- a command up to its printed line, where files are told: an Err is the refusal, or an answer that no word and no file brings about
 pub record Ran {T : Type 0} (form : Form) (words : List (List ℕ)) (before : Files) (after : Option Files) (result : Result T Status) : Type 0 where
-  pub ok : OnOk result ((bytes : List ℕ) × (PlannedBytes (plan words before) bytes × (after ≡ Some (map.insert before (word_at words (out_word form)) bytes))))
+  pub ok : OnOk result (AreWritten (out_name (Some form) words) (plan words before) before after)
   pub err : IfErr result (λ status. IsFault status ⊎ (plan words before ≡ Err status))
   pub write_fault : IfErr result (λ status. status ≡ WriteFault → IsOk (plan words before))
   pub read_fault : IfErr result (λ status. (word : ℕ) → status ≡ ReadFault word → IsReached (Some form) words before word)
+
+-- the line of an output is put: the answer is Done where it was put whole
+pub record Announced (old new : SinkState) (text : List ℕ) (answer : Status) : Type 0 where
+  pub done : answer ≡ Done → new.text ≡ grown old text
+  pub part : answer ≢ Done → (count : ℕ) × (new.text ≡ grown old (take count text))
+  pub why : (answer ≡ Done) ⊎ (answer ≡ Memory) ⊎ ((answer ≡ WriteFault) × Rose old.faults new.faults)

@@ -1,16 +1,16 @@
 // The top call: from words to a status.
-ghost use Rattle.std.specs.Prelude.{◌≡◌, ◌≢◌, ◌⊎◌, ◌<◌, ◌≤◌, ℕ, length, map, Some, None, IsOk, OnOk, OnErr, IfOk, IfErr};
-ghost use Rattle.std.specs.Option.{ForSome};
+ghost use Rattle.std.specs.Prelude.{◌≡◌, ◌≢◌, ◌⊎◌, ◌<◌, ◌≤◌, ℕ, length, map, Option, Some, None, IsSome, OnOk, OnErr, IfOk, IfErr};
+ghost use Rattle.std.specs.Option.{ForSome, option_map};
 ghost use Rattle.std.specs.String.{string_bytes};
-ghost use Rattle.outer_io.specs.Store.{OnlyReads, Rose, with_file};
-ghost use Rattle.command_words.specs.Form.{form_of, IsOperand, out_word, word_count};
-ghost use Rattle.command_words.specs.Line.{word_at};
+ghost use Rattle.outer_io.specs.Store.{Files, OnlyReads, Rose, with_file};
+ghost use Rattle.command_words.specs.Form.{form_of, IsOperand, word_count};
 ghost use Rattle.command_words.specs.Status.{parts_of};
 ghost use Rattle.command_model.specs.Plan as plan;
-ghost use Rattle.command_model.specs.Answers.{Told, NoFaultRose, IsComplete, Cause, Printed};
+ghost use Rattle.command_model.specs.Answers.{Told, NoFaultRose, IsComplete, Cause, IsOutputLine, Printed};
 ghost use Rattle.command_model.specs.Plain.{State, Stands, step};
-ghost use Rattle.bfv_commands.specs.Stages.{Prepared, Caused, Ran};
+ghost use Rattle.bfv_commands.specs.Stages.{Prepared, Caused, IsLeftToPut, Ran, Announced};
 
+use crate::check::check;
 use crate::decrypt::decrypt;
 use crate::encrypt::encrypt;
 use crate::operand::name_of;
@@ -23,7 +23,8 @@ use std::alloc::Global;
 /// Does what the words ask for.
 ///
 /// `words` are those of the command line without the program's name. Files are read from the store
-/// and the file OUT is written to it; the line of an answer other than `Done` goes to the sink.
+/// and the file OUT is written to it. What a command without a file OUT gives goes to the sink, and
+/// so does the line of an answer other than `Done`.
 pub fn command<S: Store, O: Sink>(
     alloc: Global,
     words: &[String],
@@ -45,36 +46,50 @@ pub fn command<S: Store, O: Sink>(
     // what the files stand for goes the way of the plain machine
     ensures stands { result ≡ Status.Done → ForSome (S.state store.old).files (λ before. ForSome (S.state store.new).files (λ after.
         (state : State) → Stands before state → Stands after (step (map string_bytes words.now) state))) }
-    ensures cause { Cause (map string_bytes words.now) (S.state store.old) (S.state store.new) result }
-    ensures printed { Printed (map string_bytes words.now) (O.state out.old) (O.state out.new) result }
+    ensures cause { Cause (map string_bytes words.now) (S.state store.old) (S.state store.new) (O.state out.old) (O.state out.new) result }
+    ensures printed { Printed (map string_bytes words.now) (S.state store.old).files (O.state out.old) (O.state out.new) result }
 {
     match form_of(words) {
         Some(form) => match run(alloc, form, words, store) {
-            Ok(()) => Status::Done,
+            Ok(None) => Status::Done,
+            Ok(Some(line)) => announce(out, &line),
             Err(status) => report(out, words, status),
         },
         None => report(out, words, Status::Usage),
     }
 }
 
-/// Does what words of this form ask for, up to the printed line.
-fn run<S: Store>(alloc: Global, form: Form, words: &[String], store: &mut S) -> Result<(), Status>
+/// Does what words of this form ask for, up to the printed line. What is left to be put is the line
+/// of a command that has no file OUT.
+fn run<S: Store>(
+    alloc: Global,
+    form: Form,
+    words: &[String],
+    store: &mut S,
+) -> Result<Option<Vec<u8>>, Status>
     requires form { form_of (map string_bytes words.now) ≡ Some form }
     requires count { length words.now ≡ word_count form }
     requires idle { (S.state store.old).pending ≡ None }
     ensures idle { (S.state store.new).pending ≡ None }
     ensures told { ForSome (S.state store.old).files (λ files. Ran form (map string_bytes words.now) files (S.state store.new).files result) }
+    ensures line { IfOk result (λ left. IsLeftToPut (plan.out_name (Some form) (map string_bytes words.now)) (map string_bytes words.now)
+        (S.state store.old).files (option_map (λ v. v.items) left)) }
     ensures unchanged { OnErr result ((S.state store.new).files ≡ (S.state store.old).files) }
     ensures cause { IfErr result (λ s. Caused (IsOperand form) (S.state store.old) (S.state store.new) s) }
+    ensures file { IfErr result (λ s. s ≡ Status.WriteFault → IsSome (plan.out_name (Some form) (map string_bytes words.now))) }
 {
     let bytes = prepare(alloc, form, words, store)?;
-    match write_out(store, out_name(form, words), &bytes) {
-        Ok(()) => Ok(()),
+    let Some(name) = out_name(form, words) else {
+        return Ok(Some(bytes));
+    };
+    match write_out(store, name, &bytes) {
+        Ok(()) => Ok(None),
         Err(status) => Err(status),
     }
 }
 
-/// The bytes of the file OUT. Only files are read, and nothing is written.
+/// The bytes of the file OUT, or of the line of a command that has none. Only files are read, and
+/// nothing is written.
 fn prepare<S: Store>(
     alloc: Global,
     form: Form,
@@ -86,6 +101,8 @@ fn prepare<S: Store>(
     ensures keeps { OnlyReads (S.state store.old) (S.state store.new) }
     ensures told { ForSome (S.state store.old).files (λ files.
         Prepared (plan.plan (map string_bytes words.now) files) (λ v. v.items) result) }
+    ensures line { plan.out_name (Some form) (map string_bytes words.now) ≡ None
+        → IfOk result (λ v. IsOutputLine (map string_bytes words.now) (S.state store.old).files v.items) }
     ensures cause { IfErr result (λ s. Caused (IsOperand form) (S.state store.old) (S.state store.new) s) }
     ensures reads { IfErr result (λ s. s ≢ Status.WriteFault) }
     ensures reached { ForSome (S.state store.old).files (λ files. IfErr result (λ s.
@@ -96,18 +113,20 @@ fn prepare<S: Store>(
         Form::Public => public(alloc, words, store),
         Form::Encrypt => encrypt(alloc, words, store),
         Form::Decrypt => decrypt(alloc, words, store),
+        Form::Check => check(alloc, words, store),
     }
 }
 
-fn out_name(form: Form, words: &[String]) -> &str
+/// The name of the file OUT, where the form has one.
+fn out_name(form: Form, words: &[String]) -> Option<&str>
     requires { length words.now ≡ word_count form }
-    ensures { result.now ≡ word_at (map string_bytes words.now) (out_word form) }
+    ensures { option_map (λ name. name.now) result ≡ plan.out_name (Some form) (map string_bytes words.now) }
 {
-    let word = match form {
-        Form::Encrypt => 4,
-        Form::Secret | Form::Public | Form::Decrypt => 3,
-    };
-    name_of(words, word)
+    match form {
+        Form::Encrypt => Some(name_of(words, 4)),
+        Form::Secret | Form::Public | Form::Decrypt => Some(name_of(words, 3)),
+        Form::Check => None,
+    }
 }
 
 /// Writes the file OUT.
@@ -132,11 +151,22 @@ fn report<O: Sink>(out: &mut O, words: &[String], status: Status) -> Status
     requires refused { status ≢ Status.Done }
     requires word { ForSome (parts_of status).word (λ word. word < length words.now) }
     ensures status { (result ≡ status) ⊎ (result ≡ Status.Memory) }
-    ensures printed { Printed (map string_bytes words.now) (O.state out.old) (O.state out.new) result }
+    ensures printed { (before : Option Files) → Printed (map string_bytes words.now) before (O.state out.old) (O.state out.new) result }
 {
     match put_line(out, words, status) {
         Ok(()) => status,
         Err(SinkFault::Failed) => status,
+        Err(SinkFault::Memory) => Status::Memory,
+    }
+}
+
+/// Puts the line of an output, and answers how that went.
+fn announce<O: Sink>(out: &mut O, line: &[u8]) -> Status
+    ensures { Announced (O.state out.old) (O.state out.new) line.now result }
+{
+    match out.put(line) {
+        Ok(()) => Status::Done,
+        Err(SinkFault::Failed) => Status::WriteFault,
         Err(SinkFault::Memory) => Status::Memory,
     }
 }

@@ -3,6 +3,7 @@
 #![tactic(auto)]
 
 mod answer;
+mod check;
 mod decrypt;
 mod drawing;
 mod encoding;

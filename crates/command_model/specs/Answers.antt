@@ -1,15 +1,17 @@
 -- What every answer of the top call keeps: the clauses of its contract.
 use Rattle.std.specs.Prelude.{◌≡◌, ◌≢◌, ◌⊎◌, ℕ, List, Option, Some, None, Result, Ok, Err, IsOk, take}
+use Rattle.std.specs.Option.{ForSome}
 use Rattle.std.specs.FinMap as map
 use Rattle.outer_io.specs.Store.{Files, StoreState, Rose}
 use Rattle.outer_io.specs.Sink.{SinkState, grown}
+use Rattle.bound_num.specs.declared.Bound.{Bound}
 use Rattle.command_words.specs.Form.{form_of, IsOperand}
-use Rattle.command_words.specs.Line.{line}
+use Rattle.command_words.specs.Line.{line, accepted_text}
 use Rattle.command_words.specs.Status.{parts_of}
 use Rattle.command_words.specs.declared.form.Form.{Form}
 use Rattle.command_words.specs.declared.status.Status.{Status}
 use Rattle.command_words.specs.declared.status.Status.TheVariants.{Done, Usage, Memory, ReadFault, WriteFault, MissingFile}
-use Rattle.command_model.specs.Plan.{Output, plan, IsReached, IsWritten, out_name}
+use Rattle.command_model.specs.Plan.{Output, accepted, plan, IsReached, IsWritten, out_name}
 
 -- an answer that no word and no file brings about: memory was wanting, or a call of the store or the sink failed
 abbrev pub IsFault : Status → Type 0
@@ -18,15 +20,16 @@ IsFault (ReadFault word) = Unit {0}
 IsFault WriteFault = Unit {0}
 IsFault _ = ⊥
 
--- the command did what it was to do: the file OUT has bytes of this output, and all other files are as before
+-- the files after a command that gave this output: where it has a file OUT that has bytes of the output, and all other files are as before
+abbrev pub AreLeft : Output → Option (List ℕ) → Files → Option Files → Type 0
+AreLeft output None before after = after ≡ Some before
+AreLeft output (Some name) before after = (bytes : List ℕ) × (IsWritten output bytes × (after ≡ Some (map.insert before name bytes)))
+
+-- the command did what it was to do
 pub record IsDone (words : List (List ℕ)) (before : Files) (after : Option Files) : Type 0 where
   pub output : Output
   pub planned : plan words before ≡ Ok output
-  pub name : List ℕ
-  pub named : out_name (form_of words) words ≡ Some name
-  pub bytes : List ℕ
-  pub written : IsWritten output bytes
-  pub files : after ≡ Some (map.insert before name bytes)
+  pub files : AreLeft output (out_name (form_of words) words) before after
 
 -- What an answer says of the files, where the store tells them.
 pub record Told (words : List (List ℕ)) (before : Files) (after : Option Files) (answer : Status) : Type 0 where
@@ -56,28 +59,52 @@ abbrev pub IsOperandOf : Option Form → ℕ → Type 0
 IsOperandOf None word = ⊥
 IsOperandOf (Some form) word = IsOperand form word
 
+-- a fault of writing is one of the store where there is a file OUT, and else one of the sink
+abbrev pub WriteRose : Option (List ℕ) → StoreState → StoreState → SinkState → SinkState → Type 0
+WriteRose (Some name) old new old_sink new_sink = Rose old.write_faults new.write_faults
+WriteRose None old new old_sink new_sink = Rose old_sink.faults new_sink.faults
+
 -- What an answer owes to, whether the store tells its files or not.
-pub record Cause (words : List (List ℕ)) (old new : StoreState) (answer : Status) : Type 0 where
+pub record Cause (words : List (List ℕ)) (old new : StoreState) (old_sink new_sink : SinkState) (answer : Status) : Type 0 where
   -- Usage comes exactly where the words have no form
   pub usage : answer ≡ Usage → form_of words ≡ None
   pub no_form : form_of words ≡ None → (answer ≡ Usage) ⊎ (answer ≡ Memory)
   -- a fault and a missing file come only where the count of such calls rose
   pub read : (word : ℕ) → answer ≡ ReadFault word → Rose old.faults new.faults
-  pub write : answer ≡ WriteFault → Rose old.write_faults new.write_faults
+  pub write : answer ≡ WriteFault → WriteRose (out_name (form_of words) words) old new old_sink new_sink
   pub missing : (word : ℕ) → answer ≡ MissingFile word → Rose old.misses new.misses
   -- a word that the answer keeps names a file operand
   pub word : (word : ℕ) → (parts_of answer).word ≡ Some word → IsOperandOf (form_of words) word
 
--- part of a line was put: that of the answer, or of any status but Done where the answer is Memory
-pub record PrintsPart (words : List (List ℕ)) (old new : SinkState) (answer : Status) : Type 0 where
-  pub status : Status
-  pub refused : status ≢ Done
-  pub of_answer : (answer ≡ status) ⊎ (answer ≡ Memory)
-  pub count : ℕ
-  pub text : new.text ≡ grown old (take count (line words status))
+-- the line of an output, which a command without a file OUT prints: that of an accepted script. Where the store tells its files, it is
+-- the planned one.
+pub record IsOutputLine (words : List (List ℕ)) (before : Option Files) (text : List ℕ) : Type 0 where
+  pub no_file : out_name (form_of words) words ≡ None
+  pub bound : Bound
+  pub planned : ForSome before (λ files. plan words files ≡ Ok (accepted bound))
+  pub is : text ≡ accepted_text bound
 
--- What is printed: at Done nothing, and else the line of the answer; where a put failed, the front of the line.
-pub record Printed (words : List (List ℕ)) (old new : SinkState) (answer : Status) : Type 0 where
-  pub done : answer ≡ Done → new.text ≡ old.text
+-- what a command prints that is done: nothing where there is a file OUT, and else the line of its output
+abbrev pub IsPrinted : Option (List ℕ) → List (List ℕ) → Option Files → SinkState → SinkState → Type 0
+IsPrinted (Some name) words before old new = new.text ≡ old.text
+IsPrinted None words before old new = (text : List ℕ) × (IsOutputLine words before text × (new.text ≡ grown old text))
+
+-- a line that is put before an answer other than Done: that of the answer, or of any status where memory was wanting for it. Or it is
+-- the line of the output, the put of which failed.
+abbrev pub IsLineFor : List (List ℕ) → Option Files → Status → List ℕ → Type 0
+IsLineFor words before answer text =
+    ((status : Status) × ((status ≢ Done) × ((answer ≡ status) ⊎ (answer ≡ Memory)) × (text ≡ line words status)))
+    ⊎ (IsOutputLine words before text × ((answer ≡ WriteFault) ⊎ (answer ≡ Memory)))
+
+-- part of a line was put
+pub record PrintsPart (words : List (List ℕ)) (before : Option Files) (old new : SinkState) (answer : Status) : Type 0 where
+  pub text : List ℕ
+  pub is_line : IsLineFor words before answer text
+  pub count : ℕ
+  pub put : new.text ≡ grown old (take count text)
+
+-- What is printed: at Done the line of the output, if anything, and else the line of the answer; where a put failed, the front of one line.
+pub record Printed (words : List (List ℕ)) (before : Option Files) (old new : SinkState) (answer : Status) : Type 0 where
+  pub done : answer ≡ Done → IsPrinted (out_name (form_of words) words) words before old new
   pub whole : answer ≢ Done → answer ≢ Memory → (new.text ≡ grown old (line words answer)) ⊎ Rose old.faults new.faults
-  pub part : answer ≢ Done → PrintsPart words old new answer
+  pub part : answer ≢ Done → PrintsPart words before old new answer

@@ -22,11 +22,11 @@ use Rattle.bfv_model.specs.Slots.{slots_of}
 use Rattle.script_text.specs.declared.faults.ValuePlace.{ValuePlace}
 use Rattle.script_text.specs.Reading.{values_of}
 use Rattle.script_text.specs.Values.{printed_values}
-use Rattle.command_words.specs.Form.{form_of, out_word}
+use Rattle.command_words.specs.Form.{form_of}
 use Rattle.command_words.specs.Line.{word_at}
 use Rattle.command_words.specs.declared.form.Form.{Form}
 use Rattle.command_words.specs.declared.form.Form.TheVariants as form
-use Rattle.command_model.specs.Plan.{seed_word}
+use Rattle.command_model.specs.Plan.{seed_word, out_name}
 
 -- whose secret: the set, the key id, and the n coefficients as words, with 2 for -1
 pub record Owner : Type 0 where
@@ -85,16 +85,22 @@ abbrev pub opened : Option Item → Option Item → Option Item
 opened (Some (secret_of owner)) (Some (sealed other values)) = if same_owner owner other then Some (text (printed_values values)) else None
 opened _ _ = None
 
--- the item of the file OUT
+-- the item of the file OUT; a command without one makes none
 abbrev pub item_made : Form → List (List ℕ) → State → Option Item
 item_made form.Secret words state = drawn One16 (state (word_at words 2))
 item_made form.Public words state = published (state (word_at words 1))
 item_made form.Encrypt words state = sealed_under (state (word_at words 1)) (state (word_at words 3))
 item_made form.Decrypt words state = opened (state (word_at words 1)) (state (word_at words 2))
+item_made form.Check words state = None
+
+-- the state with the item of this name, where one is named
+abbrev pub with_item_at : State → Option (List ℕ) → Option Item → State
+with_item_at state None item = state
+with_item_at state (Some name) item = with_item state name item
 
 abbrev pub step_of_form : Option Form → List (List ℕ) → State → State
 step_of_form None words state = state
-step_of_form (Some form) words state = with_item state (word_at words (out_word form)) (item_made form words state)
+step_of_form (Some form) words state = with_item_at state (out_name (Some form) words) (item_made form words state)
 
 -- the state after a command that is done: only the item of the file OUT changes
 abbrev pub step : List (List ℕ) → State → State

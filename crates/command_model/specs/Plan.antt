@@ -1,9 +1,10 @@
 -- What the words of a command and the files lead to: the first refusal, or the file OUT as far as it is determined.
-use Rattle.std.specs.Prelude.{◌≡◌, ℕ, ◌<◌, nat_lt, Bool, not, ◌&&◌, ◌==◌, if◌then◌else◌, List, length, take, slice_index, All, Option, Some, None, Result, Ok, Err, IsOk}
+use Rattle.std.specs.Option.{option_map}
+use Rattle.std.specs.Prelude.{◌≡◌, ℕ, ◌<◌, nat_lt, Bool, not, ◌&&◌, ◌==◌, if◌then◌else◌, List, length, take, slice_index, slice_get, unwrap_or, All, Option, Some, None, is_none, Result, Ok, Err, IsOk}
 use Rattle.outer_io.specs.Store.{Files, file}
 use Rattle.set_table.specs.declared.SetName.{SetName}
 use Rattle.set_table.specs.declared.SetName.TheVariants.{One16}
-use Rattle.set_table.specs.Sets.{degree_of, plain_of}
+use Rattle.set_table.specs.Sets.{degree_of, plain_of, special_of}
 use Rattle.bfv_model.specs.declared.file_kind.FileKind.{FileKind}
 use Rattle.bfv_model.specs.declared.file_kind.FileKind.TheVariants.{Secret, PublicKey, Cipher}
 use Rattle.bfv_model.specs.FileText.{FileContent, file_text}
@@ -12,17 +13,24 @@ use Rattle.bfv_model.specs.Drawn.{stream_word, seed_stream, greatest_error}
 use Rattle.bfv_model.specs.DrawnFiles.{drawn_secret_file, drawn_public_file, drawn_cipher_file}
 use Rattle.bfv_model.specs.NoiseBounds.{fresh_bound}
 use Rattle.bfv_model.specs.Slots.{slots_of}
+use Rattle.bound_num.specs.declared.Bound.{Bound}
 use Rattle.bound_num.specs.Bound.{IsUp}
 use Rattle.ring_law.specs.Rows.{natural_polynomial}
 use Rattle.script_text.specs.declared.faults.ValuePlace.{ValuePlace}
+use Rattle.script_text.specs.declared.faults.ScriptPlace.{ScriptPlace}
 use Rattle.script_text.specs.Reading.{values_of}
+use Rattle.script_text.specs.Scripts.{Script, needs_of}
+use Rattle.script_text.specs.Grammar.{script_of}
 use Rattle.script_text.specs.Values.{printed_values}
+use Rattle.noise_check.specs.declared.verdict.Verdict.{Verdict}
+use Rattle.noise_check.specs.declared.verdict.Verdict.TheVariants as verdict
+use Rattle.noise_check.specs.Verdicts.{fresh_bounds, verdict_of}
 use Rattle.command_words.specs.Form.{form_of, out_word}
-use Rattle.command_words.specs.Line.{word_at}
+use Rattle.command_words.specs.Line.{word_at, accepted_text}
 use Rattle.command_words.specs.declared.form.Form.{Form}
 use Rattle.command_words.specs.declared.form.Form.TheVariants as form
 use Rattle.command_words.specs.declared.status.Status.{Status}
-use Rattle.command_words.specs.declared.status.Status.TheVariants.{Usage, MissingFile, NotOurs, BadValues, ShortSeed}
+use Rattle.command_words.specs.declared.status.Status.TheVariants.{Usage, MissingFile, NotOurs, BadValues, BadScript, TooNoisy, NoSpecial, ShortSeed}
 
 -- the bytes are a file of this kind that a command takes: of the smallest set, and no cipher of three parts
 abbrev pub is_taken : FileKind → List ℕ → Bool
@@ -63,12 +71,24 @@ taken_values set word (Some bytes) = values_or_fault word (values_of bytes (degr
 abbrev pub values_operand : SetName → List (List ℕ) → Files → ℕ → Result (List ℕ) Status
 values_operand set words files word = taken_values set word (file files (word_at words word))
 
+abbrev pub script_or_fault : Result Script ScriptPlace → Result Script Status
+script_or_fault (Ok script) = Ok script
+script_or_fault (Err fault) = Err (BadScript fault)
+
+abbrev pub taken_script : ℕ → Option (List ℕ) → Result Script Status
+taken_script word None = Err (MissingFile word)
+taken_script word (Some bytes) = script_or_fault (script_of bytes)
+
+-- the script in the text that a word names
+abbrev pub script_operand : List (List ℕ) → Files → ℕ → Result Script Status
+script_operand words files word = taken_script word (file files (word_at words word))
+
 -- a file is read after the one before it was taken
 abbrev pub and_then : {A B E : Type 0} → Result A E → (A → Result B E) → Result B E
 and_then (Ok value) next = next value
 and_then (Err error) next = Err error
 
--- what a command writes
+-- what a command gives: the bytes of the file OUT, or where it has none its line
 pub data Output : Type 0 where
   -- the file with this content
   file_with : (content : FileContent) → Output
@@ -76,6 +96,8 @@ pub data Output : Type 0 where
   sealing : (public : FileContent) (listed seed : List ℕ) → Output
   -- the values of a cipher under a secret
   values : (secret cipher : FileContent) → Output
+  -- the noise bound of what an accepted script puts out
+  accepted : (bound : Bound) → Output
 
 -- `secret SET SEEDFILE OUT`
 abbrev pub plan_of_secret : List (List ℕ) → Files → Result Output Status
@@ -97,12 +119,32 @@ abbrev pub plan_of_decrypt : List (List ℕ) → Files → Result Output Status
 plan_of_decrypt words files =
     and_then (operand words files Secret 1) (λ secret. and_then (operand words files Cipher 2) (λ cipher. Ok (values secret cipher)))
 
+-- the bound of a register among those of all
+abbrev pub bound_at : List Bound → ℕ → Bound
+bound_at bounds register = unwrap_or (slice_get bounds register) (record { m = 0; e = 0 })
+
+-- an accepted script gives the bound of its output
+abbrev pub accepted_or_noisy : Script → Verdict → Result Output Status
+accepted_or_noisy script (verdict.Accepted bounds) = Ok (accepted (bound_at bounds script.output))
+accepted_or_noisy script (verdict.TooNoisy line bound limit) = Err (TooNoisy line bound limit)
+
+-- a script is checked with fresh bounds for all its cipher inputs, unless it switches keys and its set has no special modulus
+abbrev pub checked : Script → Result Output Status
+checked script =
+    if nat_lt 0 (length (needs_of script)) && is_none (special_of script.set) then Err (NoSpecial script.set)
+    else accepted_or_noisy script (verdict_of script (fresh_bounds script))
+
+-- `check SCRIPT`
+abbrev pub plan_of_check : List (List ℕ) → Files → Result Output Status
+plan_of_check words files = and_then (script_operand words files 1) checked
+
 abbrev pub plan_of_form : Option Form → List (List ℕ) → Files → Result Output Status
 plan_of_form None words files = Err Usage
 plan_of_form (Some form.Secret) words files = plan_of_secret words files
 plan_of_form (Some form.Public) words files = plan_of_public words files
 plan_of_form (Some form.Encrypt) words files = plan_of_encrypt words files
 plan_of_form (Some form.Decrypt) words files = plan_of_decrypt words files
+plan_of_form (Some form.Check) words files = plan_of_check words files
 
 -- what the words and the files lead to. An `Err` is the refusal: the first test that fails, in the order of reading.
 abbrev pub plan : List (List ℕ) → Files → Result Output Status
@@ -115,6 +157,7 @@ IsReached (Some form.Secret) words files word = Unit {0}
 IsReached (Some form.Public) words files word = 1 < word → IsOk (operand words files Secret 1)
 IsReached (Some form.Encrypt) words files word = (1 < word → IsOk (operand words files PublicKey 1)) × (2 < word → IsOk (seed_operand words files 2))
 IsReached (Some form.Decrypt) words files word = 1 < word → IsOk (operand words files Secret 1)
+IsReached (Some form.Check) words files word = Unit {0}
 
 -- the bytes are the printed text of n values below t
 pub record IsValuesText (set : SetName) (bytes : List ℕ) : Type 0 where
@@ -134,13 +177,14 @@ pub record IsFreshCipher (public : FileContent) (listed seed bytes : List ℕ) :
   pub bound : IsUp (fresh_bound (degree_of public.set) (plain_of public.set) greatest_error) mantissa exponent
   pub text : bytes ≡ file_text (drawn_cipher_file public plaintext mantissa exponent (seed_word seed))
 
--- what is determined of the bytes of the file OUT
+-- what is determined of the bytes that a command gives
 abbrev pub IsWritten : Output → List ℕ → Type 0
 IsWritten (file_with content) bytes = bytes ≡ file_text content
 IsWritten (sealing public listed seed) bytes = IsFreshCipher public listed seed bytes
 IsWritten (values secret cipher) bytes = IsValuesText cipher.set bytes
+IsWritten (accepted bound) bytes = bytes ≡ accepted_text bound
 
--- the name of the file OUT
+-- the name of the file OUT, where the form has one
 abbrev pub out_name : Option Form → List (List ℕ) → Option (List ℕ)
 out_name None words = None
-out_name (Some form) words = Some (word_at words (out_word form))
+out_name (Some form) words = option_map (λ word. word_at words word) (out_word form)

@@ -6,7 +6,7 @@ use Rattle.std.specs.String.{string_bytes}
 use Rattle.std.specs.declared.alloc.Global.{Global}
 use Rattle.command_words.specs.Form.{word_count, IsOperand}
 use Rattle.command_words.specs.declared.form.Form.{Form}
-use Rattle.command_words.specs.declared.form.Form.TheVariants.{Secret, Public, Encrypt, Decrypt}
+use Rattle.command_words.specs.declared.form.Form.TheVariants.{Secret, Public, Encrypt, Decrypt, Check}
 
 -- one of the strings passes a test of bytes exactly where one of the words does
 pub list_any-map : (test : List ℕ → Bool) (words : List (String Global)) → list_any test (map string_bytes words) ≡ list_any (λ word. test (string_bytes word)) words
@@ -23,3 +23,4 @@ operand_below Encrypt word count is (inr (inl second)) = omega arith
 operand_below Encrypt word count is (inr (inr third)) = omega arith
 operand_below Decrypt word count is (inl first) = omega arith
 operand_below Decrypt word count is (inr second) = omega arith
+operand_below Check word count is first = omega arith

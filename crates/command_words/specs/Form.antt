@@ -3,11 +3,15 @@ use Rattle.std.specs.Prelude.{◌≡◌, ◌⊎◌, ℕ, Bool, List, [], ◌∷�
 use Rattle.std.specs.Str.{bytes_eq}
 use Rattle.std.specs.List.{list_any}
 use Rattle.command_words.specs.declared.form.Form.{Form}
-use Rattle.command_words.specs.declared.form.Form.TheVariants.{Secret, Public, Encrypt, Decrypt}
+use Rattle.command_words.specs.declared.form.Form.TheVariants.{Secret, Public, Encrypt, Decrypt, Check}
 
 -- one of the words is empty
 abbrev pub has_empty_word : List (List ℕ) → Bool
 has_empty_word words = list_any (λ word. length word == 0) words
+
+-- the form of one word behind a command's name
+abbrev pub form_of_one : List ℕ → Option Form
+form_of_one command = if bytes_eq command (codes "check") then Some Check else None
 
 -- the form of three words behind a command's name. A secret is made for the smallest set alone.
 abbrev pub form_of_three : List ℕ → List ℕ → Option Form
@@ -22,6 +26,7 @@ form_of_four command = if bytes_eq command (codes "encrypt") then Some Encrypt e
 
 -- the form that words have by the first of them and by their number, where none is empty
 abbrev pub form_of_full_words : List (List ℕ) → Option Form
+form_of_full_words (command ∷ first ∷ []) = form_of_one command
 form_of_full_words (command ∷ first ∷ second ∷ third ∷ []) = form_of_three command first
 form_of_full_words (command ∷ first ∷ second ∷ third ∷ fourth ∷ []) = form_of_four command
 form_of_full_words _ = None
@@ -33,6 +38,7 @@ form_of words = if has_empty_word words then None else form_of_full_words words
 -- how many words a form has
 abbrev pub word_count : Form → ℕ
 word_count Encrypt = 5
+word_count Check = 2
 word_count _ = 4
 
 -- the numbers of the words that name the files a form reads
@@ -41,8 +47,10 @@ IsOperand Secret word = word ≡ 2
 IsOperand Public word = (word ≡ 1) ⊎ (word ≡ 2)
 IsOperand Encrypt word = (word ≡ 1) ⊎ (word ≡ 2) ⊎ (word ≡ 3)
 IsOperand Decrypt word = (word ≡ 1) ⊎ (word ≡ 2)
+IsOperand Check word = word ≡ 1
 
--- the number of the word that names the file OUT, which a form writes: the last
-abbrev pub out_word : Form → ℕ
-out_word Encrypt = 4
-out_word _ = 3
+-- the number of the word that names the file OUT, where a form writes one: the last
+abbrev pub out_word : Form → Option ℕ
+out_word Encrypt = Some 4
+out_word Check = None
+out_word _ = Some 3

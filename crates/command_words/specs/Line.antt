@@ -1,6 +1,7 @@
--- The line that a status prints.
+-- The lines that are printed.
 use Rattle.std.specs.Prelude.{ℕ, List, [], ◌++◌, Option, Some, None, codes, unwrap_or, slice_get}
-use Rattle.command_words.specs.Status.{Parts, parts_of}
+use Rattle.bound_num.specs.declared.Bound.{Bound}
+use Rattle.command_words.specs.Status.{Parts, parts_of, text_and_bound}
 use Rattle.command_words.specs.declared.status.Status.{Status}
 
 -- the word of this number
@@ -19,3 +20,7 @@ line_of_parts words parts = text_about words parts.text parts.word ++ (parts.det
 -- the line of a status other than Done, which prints nothing
 abbrev pub line : List (List ℕ) → Status → List ℕ
 line words status = line_of_parts words (parts_of status)
+
+-- the line of a script that is accepted: the bound of its output
+abbrev pub accepted_text : Bound → List ℕ
+accepted_text bound = text_and_bound (codes "accepted ") bound ++ codes "\n"

@@ -16,6 +16,8 @@ pub enum Form {
     Encrypt,
     /// `decrypt SEC CIPHER OUT` writes the values of a ciphertext.
     Decrypt,
+    /// `check SCRIPT` prints the noise bound of what a script puts out.
+    Check,
 }
 
 /// The form of the words, and `None` where they have none.
@@ -41,9 +43,21 @@ fn form_of_full_words(words: &[String]) -> Option<Form>
     ensures count { IfSome result (λ f. length words.now ≡ form.word_count f) }
 {
     match words {
+        [command, _] => form_of_one(command.as_str()),
         [command, first, _, _] => form_of_three(command.as_str(), first.as_str()),
         [command, _, _, _, _] => form_of_four(command.as_str()),
         _ => None,
+    }
+}
+
+fn form_of_one(command: &str) -> Option<Form>
+    ensures form { result ≡ form.form_of_one command.now }
+    ensures count { IfSome result (λ f. form.word_count f ≡ 2) }
+{
+    if command == "check" {
+        Some(Form::Check)
+    } else {
+        None
     }
 }
 

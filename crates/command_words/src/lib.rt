@@ -7,5 +7,5 @@ mod line;
 mod status;
 
 pub use form::{Form, form_of};
-pub use line::put_line;
+pub use line::{accepted_line, put_line};
 pub use status::Status;

@@ -1,15 +1,17 @@
 // The line that a status prints.
-ghost use Rattle.std.specs.Prelude.{◌≡◌, ◌≢◌, ◌<◌, ◌++◌, map, length, codes, decimal};
+ghost use Rattle.std.specs.Prelude.{◌≡◌, ◌≢◌, ◌<◌, ◌++◌, map, length, codes, IfOk, OnOk};
 ghost use Rattle.std.specs.Option.{ForSome};
 ghost use Rattle.std.specs.String.{string_bytes};
 ghost use Rattle.outer_io.specs.Sink.{Puts};
-ghost use Rattle.command_words.specs.Status.{parts_of, place_text};
-ghost use Rattle.command_words.specs.Line.{line, text_about};
+ghost use Rattle.command_words.specs.Status.{parts_of, place_text, script_place_text, text_and_number, text_and_bound, excess_text};
+ghost use Rattle.command_words.specs.Line.{line, text_about, accepted_text};
 
 use crate::Status;
+use bound_num::Bound;
 use itoa::Buffer;
 use outer_io::{Sink, SinkFault, put_three, put_two};
-use script_text::ValuePlace;
+use script_text::{ScriptPlace, ValuePlace};
+use std::alloc::{AllocError, Global};
 
 /// Puts the line of a status other than `Done`, with its line feed. After an `Err` a prefix of the
 /// line stands at the end of the text.
@@ -52,6 +54,9 @@ fn put_detail<O: Sink>(out: &mut O, status: Status) -> Result<(), SinkFault>
 {
     match status {
         Status::BadValues { fault, .. } => put_place(out, fault),
+        Status::BadScript { fault } => put_script_place(out, fault),
+        Status::TooNoisy { line, bound, limit } => put_excess(out, line, bound, limit),
+        Status::NoSpecial { set } => put_two(out, b": ", set.text().as_bytes()),
         Status::ShortSeed { have, .. } => put_number(out, " ", have as u64),
         _ => out.put(b""),
     }
@@ -68,10 +73,70 @@ fn put_place<O: Sink>(out: &mut O, place: ValuePlace) -> Result<(), SinkFault>
     }
 }
 
+fn put_script_place<O: Sink>(out: &mut O, place: ScriptPlace) -> Result<(), SinkFault>
+    ensures { Puts (O.state out.old) (O.state out.new) (script_place_text place) result }
+{
+    match place {
+        ScriptPlace::Syntax(line) => put_number(out, ": syntax line ", line as u64),
+        ScriptPlace::Name(line) => put_number(out, ": name line ", line as u64),
+        ScriptPlace::Shape(line) => put_number(out, ": shape line ", line as u64),
+        ScriptPlace::TooLong => out.put(b": too long"),
+    }
+}
+
+/// Puts the line of a script whose register has a bound above the limit.
+fn put_excess<O: Sink>(out: &mut O, line: u32, bound: Bound, limit: Bound) -> Result<(), SinkFault>
+    ensures { Puts (O.state out.old) (O.state out.new) (excess_text line bound limit) result }
+{
+    match put_number(out, ": line ", line as u64) {
+        Ok(()) => put_excess_bounds(out, bound, limit),
+        Err(fault) => Err(fault),
+    }
+}
+
+fn put_excess_bounds<O: Sink>(out: &mut O, bound: Bound, limit: Bound) -> Result<(), SinkFault>
+    ensures { Puts (O.state out.old) (O.state out.new) (text_and_bound (codes " bound ") bound ++ text_and_bound (codes " limit ") limit) result }
+{
+    match put_bound(out, " bound ", bound) {
+        Ok(()) => put_bound(out, " limit ", limit),
+        Err(fault) => Err(fault),
+    }
+}
+
+/// Puts a bound behind a text.
+fn put_bound<O: Sink>(out: &mut O, text: &str, bound: Bound) -> Result<(), SinkFault>
+    ensures { Puts (O.state out.old) (O.state out.new) (text_and_bound text.now bound) result }
+{
+    match put_number(out, text, bound.m as u64) {
+        Ok(()) => put_number(out, " ", bound.e as u64),
+        Err(fault) => Err(fault),
+    }
+}
+
 /// Puts a number in decimal behind a text.
 fn put_number<O: Sink>(out: &mut O, text: &str, number: u64) -> Result<(), SinkFault>
-    ensures { Puts (O.state out.old) (O.state out.new) (text.now ++ decimal number) result }
+    ensures { Puts (O.state out.old) (O.state out.new) (text_and_number text.now number) result }
 {
     let mut buffer = Buffer::new();
     put_two(out, text.as_bytes(), buffer.format(number).as_bytes())
+}
+
+/// The line of a script that is accepted: the noise bound of what it puts out.
+pub fn accepted_line(alloc: Global, bound: Bound) -> Result<Vec<u8>, AllocError>
+    ensures { IfOk result (λ text. text.items ≡ accepted_text bound) }
+{
+    let mut text = Vec::new(alloc);
+    push_number(&mut text, "accepted ", bound.m)?;
+    push_number(&mut text, " ", bound.e)?;
+    text.push(b'\n')?;
+    Ok(text)
+}
+
+fn push_number(text: &mut Vec<u8>, before: &str, number: u32) -> Result<(), AllocError>
+    ensures { OnOk result (text.new.items ≡ text.old.items ++ text_and_number before.now number) }
+{
+    let mut buffer = Buffer::new();
+    text.extend_from_slice(before.as_bytes())?;
+    text.extend_from_slice(buffer.format(number).as_bytes())?;
+    Ok(())
 }

@@ -2,7 +2,9 @@
 ghost use Rattle.std.specs.Prelude.{◌≡◌};
 ghost use Rattle.command_words.specs.Status.{parts_of};
 
-use script_text::ValuePlace;
+use bound_num::Bound;
+use script_text::{ScriptPlace, ValuePlace};
+use set_table::SetName;
 
 /// How a command ended. A `word` is the number of the word of a file operand, counted from 0.
 #[derive(Clone, Copy, Debug, PartialEq, Eq)]
@@ -13,16 +15,42 @@ pub enum Status {
     /// Memory was wanting. This answer may come at any point before a file changes.
     Memory,
     /// A file could not be read.
-    ReadFault { word: u32 },
+    ReadFault {
+        word: u32,
+    },
     /// The file OUT could not be written.
     WriteFault,
-    MissingFile { word: u32 },
+    MissingFile {
+        word: u32,
+    },
     /// A file isn't the text of a key or a ciphertext that this command takes.
-    NotOurs { word: u32 },
+    NotOurs {
+        word: u32,
+    },
     /// A text of values is wrong.
-    BadValues { word: u32, fault: ValuePlace },
+    BadValues {
+        word: u32,
+        fault: ValuePlace,
+    },
+    /// A script is refused.
+    BadScript {
+        fault: ScriptPlace,
+    },
+    /// The noise bound of the register that a line of a script defines is above the limit.
+    TooNoisy {
+        line: u32,
+        bound: Bound,
+        limit: Bound,
+    },
+    /// A script switches keys, and its set has no special modulus.
+    NoSpecial {
+        set: SetName,
+    },
     /// A seed file has only `have` bytes, which are fewer than 32.
-    ShortSeed { word: u32, have: u32 },
+    ShortSeed {
+        word: u32,
+        have: u32,
+    },
 }
 
 impl Status {
@@ -39,6 +67,9 @@ impl Status {
             Status::MissingFile { .. } => 6,
             Status::NotOurs { .. } => 7,
             Status::BadValues { .. } => 13,
+            Status::BadScript { .. } => 14,
+            Status::TooNoisy { .. } => 15,
+            Status::NoSpecial { .. } => 18,
             Status::ShortSeed { .. } => 19,
         }
     }
@@ -56,6 +87,9 @@ impl Status {
             Status::MissingFile { .. } => "missing file",
             Status::NotOurs { .. } => "not ours",
             Status::BadValues { .. } => "bad values",
+            Status::BadScript { .. } => "bad script",
+            Status::TooNoisy { .. } => "too noisy",
+            Status::NoSpecial { .. } => "no special modulus",
             Status::ShortSeed { .. } => "short seed",
         }
     }
@@ -70,7 +104,13 @@ impl Status {
             | Status::NotOurs { word }
             | Status::BadValues { word, .. }
             | Status::ShortSeed { word, .. } => Some(word),
-            Status::Done | Status::Usage | Status::Memory | Status::WriteFault => None,
+            Status::Done
+            | Status::Usage
+            | Status::Memory
+            | Status::WriteFault
+            | Status::BadScript { .. }
+            | Status::TooNoisy { .. }
+            | Status::NoSpecial { .. } => None,
         }
     }
 }

@@ -1,9 +1,12 @@
-use Rattle.std.proofs.Common.{◌≡◌, length, map, rules, sym, ◌∙◌}
+use Rattle.std.proofs.Common.{◌≡◌, length, map, rules, ap, subst, ◌∙◌}
 use Rattle.std.specs.Prelude.{Some}
+use Rattle.std.specs.Option.{option_map}
 use Rattle.std.specs.String.{string_bytes}
 use Rattle.command_words.specs.Form.{form_of}
 use Rattle.command_words.proofs.Words.{operand_below}
-use Rattle.bfv_commands.proofs.Answering.{answer_apart, cause_of_refusal, complete_answer, printed_nothing}
+use Rattle.command_model.specs.Plan.{plan, out_name}
+use Rattle.bfv_commands.specs.Stages.{AreWritten}
+use Rattle.bfv_commands.proofs.Answering.{answer_apart, cause_of_refusal, complete_answer}
 use Rattle.bfv_commands.proofs.Outputs.{told_done, told_refused}
 use Rattle.bfv_commands.proofs.Standing.{stands_after}
 use Rattle.bfv_commands.proofs.answer.command.Goals as goal
@@ -14,26 +17,15 @@ report-requires-clause-word g c = λ word at.
     let named = c.in-Err.ensures.cause.word word at in
     operand_below c.in-Some.form word (length c.args.words.now) count named
 
-pub returns-in-Ok-clause-told : goal.returns-in-Ok-clause-told
-returns-in-Ok-clause-told g c = λ files told.
+pub returns-in-Ok-None-clause-told : goal.returns-in-Ok-None-clause-told
+returns-in-Ok-None-clause-told g c = λ files told.
     let form : form_of (map string_bytes c.args.words.now) ≡ Some c.in-Some.form = search rules in
-    told_done c.in-Some.form _ files _ form (c.in-Ok.ensures.told files told).ok
+    told_done c.in-Some.form _ _ files _ _ form (ap (option_map (λ v. v.items)) c.in-Ok-None.field-0-is) c.in-Ok-None.ensures.line (c.in-Ok-None.ensures.told files told).ok
 
-pub returns-in-Ok-clause-stands : goal.returns-in-Ok-clause-stands
-returns-in-Ok-clause-stands g c = λ _ before was after now state stands.
+pub returns-in-Ok-None-clause-stands : goal.returns-in-Ok-None-clause-stands
+returns-in-Ok-None-clause-stands g c = λ _ before was after now state stands.
     let form : form_of (map string_bytes c.args.words.now) ≡ Some c.in-Some.form = search rules in
-    let done = (c.in-Ok.ensures.told before was).ok in
-    stands_after c.in-Some.form _ before after state form (done.0, (done.1.0, sym now ∙ done.1.1)) stands
-
-pub returns-in-Ok-clause-printed : goal.returns-in-Ok-clause-printed
-returns-in-Ok-clause-printed g c = printed_nothing _ _
-
-pub returns-in-Err-clause-told : goal.returns-in-Err-clause-told
-returns-in-Err-clause-told g c = λ files told.
-    let form : form_of (map string_bytes c.args.words.now) ≡ Some c.in-Some.form = search rules in
-    let ran = c.in-Err.ensures.told files told in
-    told_refused c.in-Some.form _ files _ c.in-Err.status c.report.result form c.in-Err.ensures.cause.refused (c.in-Err.ensures.unchanged ∙ told)
-    ran.err ran.write_fault ran.read_fault c.report.ensures.status
+    stands_after c.in-Some.form _ before after state form (subst (λ files. AreWritten (out_name (Some c.in-Some.form) (map string_bytes c.args.words.now)) (plan (map string_bytes c.args.words.now) before) before files) now (c.in-Ok-None.ensures.told before was).ok) stands
 
 pub returns-in-Err-clause-complete : goal.returns-in-Err-clause-complete
 returns-in-Err-clause-complete g c = λ files told none.
@@ -43,4 +35,4 @@ returns-in-Err-clause-complete g c = λ files told none.
     let refused = told_refused c.in-Some.form _ files _ c.in-Err.status c.report.result form c.in-Err.ensures.cause.refused (c.in-Err.ensures.unchanged ∙ told)
     ran.err ran.write_fault ran.read_fault c.report.ensures.status in
     complete_answer (map string_bytes c.args.words.now) _ _ _ _ _ c.report.result
-    (cause_of_refusal (map string_bytes c.args.words.now) c.in-Some.form _ _ c.in-Err.status c.report.result form c.in-Err.ensures.cause c.report.ensures.status) none (refused.refused apart)
+    (cause_of_refusal (map string_bytes c.args.words.now) c.in-Some.form _ _ _ _ c.in-Err.status c.report.result form c.in-Err.ensures.cause c.in-Err.ensures.file c.report.ensures.status) none (refused.refused apart)
