@@ -16,14 +16,14 @@ below_end low end word is =
     let last = (and_parts (is_number word && nat_le low (written_number word)) (nat_lt (written_number word) end) is).1 in
     grind (arith, nat_tests)
 
-plain_small : (set : SetName) → plain_of set < 65538
+pub plain_small : (set : SetName) → plain_of set < 65538
 plain_small One16 = omega arith
 plain_small Toy16 = omega arith
 plain_small S4096 = omega arith
 plain_small S8192 = omega arith
 plain_small S16384 = omega arith
 
-degree_small : (set : SetName) → degree_of set / 2 < 65538
+pub degree_small : (set : SetName) → degree_of set / 2 < 65538
 degree_small One16 = omega arith
 degree_small Toy16 = omega arith
 degree_small S4096 = omega arith

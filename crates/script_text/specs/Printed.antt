@@ -1,5 +1,5 @@
 -- The text of a script.
-use Rattle.std.specs.Prelude.{ℕ, List, [], ◌∷◌, ◌++◌, map, slice_index_or, codes, decimal}
+use Rattle.std.specs.Prelude.{ℕ, ◌+◌, List, length, [], ◌∷◌, ◌++◌, map, slice_index_or, codes, decimal}
 use Rattle.std.specs.List.{flat_map}
 use Rattle.set_table.specs.Sets.{name_of}
 use Rattle.script_text.specs.declared.keyword.Keyword.{Keyword}
@@ -82,3 +82,20 @@ printed_script script =
     ++ flat_map printed_input script.inputs
     ++ flat_map (printed_step (register_names script) (plain_names script)) script.steps
     ++ printed_line (codes "output" ∷ slice_index_or (register_names script) script.output [] ∷ [])
+
+-- inputs with the lines from this one on
+abbrev pub inputs_from : ℕ → List Input → List Input
+inputs_from line [] = []
+inputs_from line (input ∷ inputs) = record input { line = line } ∷ inputs_from (line + 1) inputs
+
+-- steps with the lines from this one on
+abbrev pub steps_from : ℕ → List Step → List Step
+steps_from line [] = []
+steps_from line (step ∷ steps) = record step { line = line } ∷ steps_from (line + 1) steps
+
+-- the script with the lines of its printed text: behind that of the set stand those of the inputs and then those of the steps
+abbrev pub renumbered : Script → Script
+renumbered script = record script {
+  inputs = inputs_from 2 script.inputs;
+  steps = steps_from (2 + length script.inputs) script.steps;
+}

@@ -5,6 +5,7 @@ mod draft;
 mod evaluator;
 mod faults;
 mod keyword;
+mod laws;
 mod name;
 mod parser;
 mod printer;
@@ -17,6 +18,7 @@ mod words;
 
 pub use evaluator::evaluate;
 pub use faults::{ScriptFault, ScriptPlace, ValueFault, ValuePlace};
+pub use laws::law_of_printing;
 pub use parser::parse;
 pub use printer::print;
 pub use reading::read_values;
