@@ -29,8 +29,8 @@ cat > crates/ntt_bench/src/main.rt <<'RATTLE'
 // Prints the nanoseconds that a transform of 16384 words takes there and back, and a sum of what it wrote.
 #![tactic(auto)]
 
-ghost use Rattle.std.specs.Prelude.{◌<◌, ◌≡◌, length};
-ghost use Rattle.lane_rows.specs.Rows.{RowBelow};
+ghost use Rattle.std.specs.Prelude.{◌<◌, ◌≤◌};
+ghost use Rattle.ring_law.specs.Rows.{IsReduced};
 ghost use Rattle.neg_ntt.specs.Parameters.{IsDegree};
 
 use neg_ntt::Transform;
@@ -44,12 +44,13 @@ const TURNS: u64 = 20;
 const Q: u64 = 0xffff_fffd_8001;
 const PSI: u64 = 0x2cd9_a219_5246;
 
-fn fill(bound: u64, row: &mut [u64])
-    requires { 0 < bound }
-    ensures { RowBelow bound row.new }
+fn fill<const N: usize>(bound: u64, row: &mut [u64; N])
+    requires positive { 0 < bound }
+    requires degree { N ≤ 32768 }
+    ensures { IsReduced N bound row.new }
 {
     let mut word: u64 = 1;
-    for i in 0..row.len() {
+    for i in 0..N {
         word = word.wrapping_mul(0x5851_f42d_4c95_7f2d).wrapping_add(0x1405_7b7e_f767_814f);
         row[i] = word % bound;
     }
@@ -69,8 +70,8 @@ fn report<R: Print + Clock>(rt: &R, call: &str, start: Instant, row: &[u64]) -> 
 }
 
 fn forward<R: Print + Clock, const N: usize>(rt: &R, transform: &Transform<N>, row: &mut [u64; N]) -> io::Result<()>
-    requires { RowBelow transform.now.modulus row.old }
-    ensures { RowBelow transform.now.modulus row.new }
+    requires { IsReduced N transform.now.modulus row.old }
+    ensures { IsReduced N transform.now.modulus row.new }
 {
     let start = Instant::now(rt)?;
     'turns: for _ in 0..TURNS {
@@ -80,7 +81,7 @@ fn forward<R: Print + Clock, const N: usize>(rt: &R, transform: &Transform<N>, r
 }
 
 fn inverse<R: Print + Clock, const N: usize>(rt: &R, transform: &Transform<N>, row: &mut [u64; N]) -> io::Result<()>
-    requires { RowBelow transform.now.modulus row.old }
+    requires { IsReduced N transform.now.modulus row.old }
 {
     let start = Instant::now(rt)?;
     'turns: for _ in 0..TURNS {
@@ -118,16 +119,15 @@ use Rattle.std.proofs.Common.{ℕ, ◌<◌, get_or}
 use Rattle.ntt_bench.proofs.fill.Given as goal
 
 abbrev pub invariant-loop-i : goal.invariant-loop-i
-invariant-loop-i l = (j : ℕ) → j < l.i → get_or l.row j 0 < l.bound
+invariant-loop-i g l = (j : ℕ) → j < l.i → get_or l.row j 0 < l.bound
 ANTT
 for call in forward inverse; do
     cat > crates/ntt_bench/proofs/$call/Invariants.antt <<ANTT
-use Rattle.std.proofs.Common.{length, ◌≡◌}
-use Rattle.lane_rows.specs.Rows.{RowBelow}
+use Rattle.ring_law.specs.Rows.{IsReduced}
 use Rattle.ntt_bench.proofs.$call.Given as goal
 
 abbrev pub invariant-turns : goal.invariant-turns
-invariant-turns g l = RowBelow l.transform.modulus l.row
+invariant-turns g l = IsReduced g.row.N l.transform.modulus l.row
 ANTT
 done
 
