@@ -32,7 +32,7 @@ use Rattle.bfv_model.proofs.DrawnSamples.{ternary_coefficient_within}
 use Rattle.bfv_model.proofs.KeyRows.{drawn_public-WordsArePublicKeyOf}
 use Rattle.bfv_model.proofs.Limits.{limit-one16}
 use Rattle.bfv_model.proofs.Noise.{Holds-within}
-use Rattle.bfv_model.proofs.Rules.{degree_pos}
+use Rattle.bfv_model.proofs.Rules.{degree_pos, data_count_pos}
 
 -- ---- the numbers of the sets
 pub PairwiseInvertible-data_of : (set : SetName) → PairwiseInvertible (data_of set)
@@ -48,13 +48,6 @@ AllAboveOne-data_of Toy16 = AllAboveOne-from_test (data_of Toy16) refl
 AllAboveOne-data_of S4096 = AllAboveOne-from_test (data_of S4096) refl
 AllAboveOne-data_of S8192 = AllAboveOne-from_test (data_of S8192) refl
 AllAboveOne-data_of S16384 = AllAboveOne-from_test (data_of S16384) refl
-
-data_count_pos : (set : SetName) → 0 < length (data_of set)
-data_count_pos One16 = lit< tt
-data_count_pos Toy16 = lit< tt
-data_count_pos S4096 = lit< tt
-data_count_pos S8192 = lit< tt
-data_count_pos S16384 = lit< tt
 
 plain_pos : (set : SetName) → 0 < plain_of set
 plain_pos One16 = lit< tt

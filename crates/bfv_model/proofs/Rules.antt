@@ -43,6 +43,13 @@ degree_lt S4096 = lit< tt
 degree_lt S8192 = lit< tt
 degree_lt S16384 = lit< tt
 
+pub data_count_pos : (set : SetName) → 0 < length (data_of set)
+data_count_pos One16 = lit< tt
+data_count_pos Toy16 = lit< tt
+data_count_pos S4096 = lit< tt
+data_count_pos S8192 = lit< tt
+data_count_pos S16384 = lit< tt
+
 pub data_count_lt : (set : SetName) → length (data_of set) < 9
 data_count_lt One16 = lit< tt
 data_count_lt Toy16 = lit< tt

@@ -26,7 +26,7 @@ plain_of-limit S4096 = lit< tt
 plain_of-limit S8192 = lit< tt
 plain_of-limit S16384 = lit< tt
 
-degree_of-power : (set : SetName) → degree_of set ≡ 2 ^ log_degree_of set
+pub degree_of-power : (set : SetName) → degree_of set ≡ 2 ^ log_degree_of set
 degree_of-power One16 = refl
 degree_of-power Toy16 = refl
 degree_of-power S4096 = refl

@@ -1,9 +1,9 @@
 //! All that the calls of the scheme need of a set.
 
-ghost use Rattle.std.specs.Prelude.{◌≡◌, ◌+◌, ◌*◌, ◌<◌, ◌≤◌, length, map, slice_index, Some, IsSome, IfOk};
+ghost use Rattle.std.specs.Prelude.{◌≡◌, ◌+◌, ◌*◌, ◌<◌, ◌≤◌, length, map, slice_index, slice_index_or, [], Some, IsSome, IfOk};
 ghost use Rattle.set_table.specs.Sets.{degree_of, data_of, aux_of, plain_of, special_of, gamma};
 ghost use Rattle.ring_law.specs.Moduli.{product};
-ghost use Rattle.ring_law.specs.Rows.{IsReduced, Represents, natural_polynomial};
+ghost use Rattle.ring_law.specs.Rows.{IsReduced, Represents, RowRepresents, natural_polynomial};
 ghost use Rattle.rns_poly.specs.Rows.{AreReduced};
 ghost use Rattle.bfv_model.specs.Plaintexts.{scaled_plain};
 ghost use Rattle.bfv_params.specs.Moduli.{data_at, key_at, wide_of};
@@ -12,7 +12,7 @@ ghost use Rattle.bfv_params.specs.Converters.{lift_at, floor_at, back_at, plain_
 
 use crate::converters::Converters;
 use crate::moduli::Moduli;
-use crate::scaled::scale_rows;
+use crate::scaled::{scale_row, scale_rows};
 use crate::transforms::Transforms;
 use fast_conv::{DropLast, FastConv, FastFloor, MontLift, SkBack};
 use neg_ntt::Transform;
@@ -212,5 +212,17 @@ impl<const N: usize> Context<N> {
         ensures reduced { AreReduced N (data_at (self.now).set (self.now).level) out.new }
     {
         scale_rows(&self.moduli.base, &self.moduli.plain, plain, out);
+    }
+
+    /// Writes the row of the scaled plaintext under data modulus i alone.
+    pub fn scaled_row_into(&self, i: usize, plain: &[u64; N], out: ViewMut<'_, N>)
+        requires place { i < (self.now).level }
+        requires below { IsReduced N (plain_of (self.now).set) plain.now }
+        requires one { length out.old ≡ 1 }
+        ensures represents { RowRepresents N (slice_index (data_at (self.now).set (self.now).level) i) (slice_index_or out.new 0 [])
+            (natural_polynomial (λ k. scaled_plain (product (data_at (self.now).set (self.now).level)) (plain_of (self.now).set) (slice_index plain.now k))) }
+        ensures reduced { IsReduced N (slice_index (data_at (self.now).set (self.now).level) i) (slice_index_or out.new 0 []) }
+    {
+        scale_row(&self.moduli.base, i, &self.moduli.plain, plain, &mut out[0]);
     }
 }

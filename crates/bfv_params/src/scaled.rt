@@ -28,7 +28,7 @@ pub fn scale_rows<const N: usize>(base: &Base, t: &Modulus, plain: &[u64; N], ou
 }
 
 /// Writes the row under modulus `i` of the base.
-fn scale_row<const N: usize>(
+pub fn scale_row<const N: usize>(
     base: &Base,
     i: usize,
     t: &Modulus,

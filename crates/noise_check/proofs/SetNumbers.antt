@@ -32,17 +32,3 @@ pub limit-rounded_product : (xs : List ℕ) → 0 < length xs → limit xs ≡ d
 unfolding limit
 limit-rounded_product [] some = absurd (omega arith)
 limit-rounded_product (q ∷ qs) some = refl
-
-pub data_count-positive : (set : SetName) → 0 < length (data_of set)
-data_count-positive One16 = lit< tt
-data_count-positive Toy16 = lit< tt
-data_count-positive S4096 = lit< tt
-data_count-positive S8192 = lit< tt
-data_count-positive S16384 = lit< tt
-
-pub data_count-few : (set : SetName) → length (data_of set) < 9
-data_count-few One16 = lit< tt
-data_count-few Toy16 = lit< tt
-data_count-few S4096 = lit< tt
-data_count-few S8192 = lit< tt
-data_count-few S16384 = lit< tt

@@ -2,7 +2,7 @@
 ghost use Rattle.std.specs.Prelude.{◌≡◌, ◌+◌, ◌*◌, ◌/◌, ◌≤◌, length, sum, IsSome};
 ghost use Rattle.set_table.specs.declared.SetName.{SetName};
 ghost use Rattle.set_table.specs.Sets.{degree_of, plain_of, data_of, special_of};
-ghost use Rattle.bound_num.specs.Bound.{bound_value, IsCanonical, up};
+ghost use Rattle.bound_num.specs.Bound.{bound_value, IsCanonical, up, IsUp};
 ghost use Rattle.bfv_model.specs.Drawn.{greatest_error};
 ghost use Rattle.bfv_model.specs.Limit as limits;
 ghost use Rattle.bfv_model.specs.NoiseBounds.{fresh_bound};
@@ -32,6 +32,7 @@ pub fn fresh(set: SetName) -> Bound
     ensures canonical { IsCanonical result.m result.e }
     ensures value { bound_value result.m result.e
         ≡ up (fresh_bound (degree_of set) (plain_of set) greatest_error) }
+    ensures rounded { IsUp (fresh_bound (degree_of set) (plain_of set) greatest_error) result.m result.e }
     ensures exponent { result.e ≤ 33 }
 {
     let n = set.degree() as u64;

@@ -2,11 +2,12 @@ use Rattle.std.proofs.Common.{◌*◌, ◌/◌, ◌+◌, arith, ap, ◌∙◌, s
 use Rattle.std.proofs.lemmas.List.{drop_all}
 use Rattle.set_table.specs.Sets.{data_of}
 use Rattle.bound_num.specs.Bound.{bound_value, down}
-use Rattle.noise_check.proofs.SetNumbers.{rounded_product, fold-drop, limit-rounded_product, data_count-positive, data_count-few}
+use Rattle.bfv_model.proofs.Rules.{data_count_pos, data_count_lt}
+use Rattle.noise_check.proofs.SetNumbers.{rounded_product, fold-drop, limit-rounded_product}
 use Rattle.noise_check.proofs.sets.limit.Goals as goal
 
 pub data_modulus-requires : goal.data_modulus-requires
-data_modulus-requires c = data_count-positive c.args.set
+data_modulus-requires c = data_count_pos c.args.set
 
 pub loop-i-init : goal.loop-i-init
 loop-i-init c =
@@ -20,7 +21,7 @@ loop-i-init c =
 
 pub mul_down-product-requires-clause-small : goal.mul_down-product-requires-clause-small
 mul_down-product-requires-clause-small c =
-    let few = data_count-few c.args.set in
+    let few = data_count_lt c.args.set in
     let exponent = c.loop-i.invariant.exponent in
     omega arith
 
@@ -44,4 +45,4 @@ returns-clause-value c =
     c.quarter.ensures.value
     ∙ ap (λ product. down (product / 4))
     (sym (ap (rounded_product (bound_value c.loop-i.product.m c.loop-i.product.e)) (drop_all c.loop-i.i (data_of c.args.set) (omega arith))) ∙ c.loop-i.invariant.value)
-    ∙ sym (limit-rounded_product (data_of c.args.set) (data_count-positive c.args.set))
+    ∙ sym (limit-rounded_product (data_of c.args.set) (data_count_pos c.args.set))
