@@ -1,0 +1,9 @@
+pub mod Moduli
+pub mod CentredResidues
+pub mod OneRow
+pub mod Written
+pub mod Results
+pub mod Operands
+pub mod Ciphers
+pub mod Operations
+pub mod TransformedProducts

@@ -1,0 +1,88 @@
+//! Sums, differences and negatives of ciphertexts.
+
+ghost use Rattle.std.specs.Prelude.{◌≡◌, ℕ, ◌+◌, max, ℤ};
+ghost use Rattle.set_table.specs.Sets.{plain_of};
+ghost use Rattle.bfv_model.specs.Plaintexts.{plain_sum, plain_difference, plain_negative};
+ghost use Rattle.bfv_linear.specs.Ciphers.{HoldsIn, IsCipherOf};
+
+use bfv_params::{Cipher, Context};
+use rns_poly::{add_into, neg_into, sub_into};
+
+/// Writes the sum of two ciphertexts, which has as many parts as the one of them with more.
+pub fn add<const N: usize>(ctx: &Context<N>, a: &Cipher<N>, b: &Cipher<N>, out: &mut Cipher<N>)
+    requires a_of { IsCipherOf (ctx.now) (a.now) }
+    requires b_of { IsCipherOf (ctx.now) (b.now) }
+    requires out_of { IsCipherOf (ctx.now) (out.old) }
+    ensures of_context { IsCipherOf (ctx.now) (out.new) }
+    ensures room { (out.new).room ≡ (out.old).room }
+    ensures parts { (out.new).parts ≡ max (a.now).parts (b.now).parts }
+    ensures sum { (s : ℕ → ℤ) (m other : ℕ → ℕ) (bound more : ℕ) → HoldsIn N (ctx.now) (a.now) s m bound →
+        HoldsIn N (ctx.now) (b.now) s other more →
+        HoldsIn N (ctx.now) (out.new) s (plain_sum (plain_of (ctx.now).set) m other) (bound + more) }
+{
+    let moduli = ctx.data_moduli();
+    let (level, parts) = (moduli.len(), a.parts().max(b.parts()));
+    let mut row = [[0; N]];
+    out.set_parts(parts);
+    for i in 0..parts as usize * level {
+        let place = i % level;
+        let (from, other) = (
+            a.view().rows_from_to(i, i + 1),
+            b.view().rows_from_to(i, i + 1),
+        );
+        add_into(&moduli[place..place + 1], from, other, &mut row);
+        out.set_row(i, &row[0]);
+    }
+}
+
+/// Writes the difference of two ciphertexts, which has as many parts as the one of them with more.
+pub fn sub<const N: usize>(ctx: &Context<N>, a: &Cipher<N>, b: &Cipher<N>, out: &mut Cipher<N>)
+    requires a_of { IsCipherOf (ctx.now) (a.now) }
+    requires b_of { IsCipherOf (ctx.now) (b.now) }
+    requires out_of { IsCipherOf (ctx.now) (out.old) }
+    ensures of_context { IsCipherOf (ctx.now) (out.new) }
+    ensures room { (out.new).room ≡ (out.old).room }
+    ensures parts { (out.new).parts ≡ max (a.now).parts (b.now).parts }
+    ensures difference { (s : ℕ → ℤ) (m other : ℕ → ℕ) (bound more : ℕ) → HoldsIn N (ctx.now) (a.now) s m bound →
+        HoldsIn N (ctx.now) (b.now) s other more →
+        HoldsIn N (ctx.now) (out.new) s (plain_difference (plain_of (ctx.now).set) m other) (bound + more) }
+{
+    let moduli = ctx.data_moduli();
+    let (level, parts) = (moduli.len(), a.parts().max(b.parts()));
+    let mut row = [[0; N]];
+    out.set_parts(parts);
+    for i in 0..parts as usize * level {
+        let place = i % level;
+        let (from, other) = (
+            a.view().rows_from_to(i, i + 1),
+            b.view().rows_from_to(i, i + 1),
+        );
+        sub_into(&moduli[place..place + 1], from, other, &mut row);
+        out.set_row(i, &row[0]);
+    }
+}
+
+/// Writes the negative of a ciphertext.
+pub fn neg<const N: usize>(ctx: &Context<N>, a: &Cipher<N>, out: &mut Cipher<N>)
+    requires a_of { IsCipherOf (ctx.now) (a.now) }
+    requires out_of { IsCipherOf (ctx.now) (out.old) }
+    ensures of_context { IsCipherOf (ctx.now) (out.new) }
+    ensures room { (out.new).room ≡ (out.old).room }
+    ensures parts { (out.new).parts ≡ (a.now).parts }
+    ensures negative { (s : ℕ → ℤ) (m : ℕ → ℕ) (bound : ℕ) → HoldsIn N (ctx.now) (a.now) s m bound →
+        HoldsIn N (ctx.now) (out.new) s (plain_negative (plain_of (ctx.now).set) m) bound }
+{
+    let moduli = ctx.data_moduli();
+    let (level, parts) = (moduli.len(), a.parts());
+    let mut row = [[0; N]];
+    out.set_parts(parts);
+    for i in 0..parts as usize * level {
+        let place = i % level;
+        neg_into(
+            &moduli[place..place + 1],
+            a.view().rows_from_to(i, i + 1),
+            &mut row,
+        );
+        out.set_row(i, &row[0]);
+    }
+}
