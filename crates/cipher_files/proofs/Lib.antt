@@ -1,0 +1,11 @@
+pub mod Ranges
+pub mod Parts
+pub mod Sets
+pub mod Fronts
+pub mod Bodies
+pub mod Laws
+pub mod Tables
+pub mod FileRows
+pub mod ListedWords
+pub mod RowWords
+pub mod Contents

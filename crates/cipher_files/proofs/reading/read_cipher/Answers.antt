@@ -1,0 +1,84 @@
+use Rattle.std.proofs.Common.{◌≡◌, ◌∙◌, ◌+◌, ◌*◌, ◌<◌, ◌≤◌, ℕ, ap, subst, sym, rules, arith, length, length-set, set, zero-add}
+use Rattle.std.proofs.Math.Logic.{⊎_elim}
+use Rattle.std.proofs.lemmas.Bool.{cases_lt}
+use Rattle.std.proofs.lemmas.Result.{err_from_is_err_and}
+use Rattle.set_table.specs.Sets.{data_of}
+use Rattle.outer_io.specs.Store.{contents}
+use Rattle.bfv_params.specs.Values.{CipherValue}
+use Rattle.bfv_params.proofs.Ciphers.{within_three}
+use Rattle.bfv_params.specs.Rows.{ZeroFrom}
+use Rattle.cipher_files.specs.Heads.{content_with}
+use Rattle.cipher_files.proofs.FileRows.{file_of_head, file_rows, held_row-unchanged, one_more_row, place_inside, row_in_turn, row_past, row_read, row_refused, zero_from-set}
+use Rattle.cipher_files.proofs.Tables.{cipher_parts, cipher_rows}
+use Rattle.cipher_files.proofs.reading.read_cipher.Goals as goal
+
+pub returns-in_err-read_row-clause-changed : goal.returns-in_err-read_row-clause-changed
+returns-in_err-read_row-clause-changed g c =
+    let p = err_from_is_err_and c.from_residual.result c.from_residual.ensures.1 in
+    rw (p.1, p.2) (λ files told is holds.
+    let head = c.args.head.now in
+    let kind = cipher_rows head.kind head.set head.parts c.requires.kind in
+    let rows = kind.0 in
+    let all = ap (λ (m : ℕ). head.parts * m) c.data_count-count.ensures in
+    let bytes = contents files c.args.name.now in
+    let row = row_in_turn g.row.N _ c.rows.i c.row_modulus.result bytes _ holds (omega arith) c.row_modulus.ensures in
+    held_row-unchanged files c.args.name.now g.row.N c.rows.i c.row_modulus.result c.in_err-read_row.field-0.0
+    (c.in_err-read_row.ensures.told files (c.rows.invariant.keeps.files ∙ told)).fault row (cc))
+
+pub returns-in_err-read_row-clause-told : goal.returns-in_err-read_row-clause-told
+returns-in_err-read_row-clause-told g c =
+    let p = err_from_is_err_and c.from_residual.result c.from_residual.ensures.1 in
+    rw (p.1, p.2) (λ files told content there is head_of.
+    let head = c.args.head.now in
+    let kind = cipher_rows head.kind head.set head.parts c.requires.kind in
+    let rows = kind.0 in
+    let all = ap (λ (m : ℕ). head.parts * m) c.data_count-count.ensures in
+    let bytes = contents files c.args.name.now in
+    let holds = file_rows bytes (content_with head content.words) g.row.N (file_of_head bytes head content is head_of) c.requires.degree in
+    let row = row_in_turn g.row.N _ c.rows.i c.row_modulus.result bytes _ holds (omega arith) c.row_modulus.ensures in
+    record { ok = tt; never = row_refused (c.in_err-read_row.ensures.told files (c.rows.invariant.keeps.files ∙ told)) c.in_err-read_row.ensures.only there row })
+
+pub rows-preserved : goal.rows-preserved
+rows-preserved g c =
+    let head = c.args.head.now in
+    let rows = c.rows.into.rows in
+    let row = c.read_row.new.row in
+    let written : c.set_row.new.self.rows ≡ set rows c.rows.i row = ap (λ (v : CipherValue). v.rows) c.set_row.ensures in
+    let all = ap (λ (m : ℕ). head.parts * m) c.data_count-count.ensures in
+    let last = head.parts * length (data_of head.set) in
+    let before : c.rows.i < last = omega arith in
+    let third : c.rows.i < 3 * length (data_of head.set) = within_three head.parts (length (data_of head.set)) c.rows.i (cipher_parts head.kind head.parts c.requires.kind c.requires.rules.parts) before in
+    let inside : c.rows.i < length rows = omega arith in
+    record {
+      keeps = search rules;
+      set = ap (λ (v : CipherValue). v.set) c.set_row.ensures ∙ c.rows.invariant.set;
+      room = ap (λ (v : CipherValue). v.room) c.set_row.ensures ∙ c.rows.invariant.room;
+      level = ap (λ (v : CipherValue). v.level) c.set_row.ensures ∙ c.rows.invariant.level;
+      parts = ap (λ (v : CipherValue). v.parts) c.set_row.ensures ∙ c.rows.invariant.parts;
+      size = ap length written ∙ length-set rows c.rows.i row ∙ c.rows.invariant.size;
+      rest = subst (ZeroFrom g.row.N last) (sym written) (zero_from-set g.row.N last c.rows.i rows row before c.rows.invariant.rest);
+      told = λ files told.
+          let read = (c.in_ok-read_row.ensures.told files (c.rows.invariant.keeps.files ∙ told)).ok in
+          rw written (one_more_row files c.args.name.now g.row.N 0 c.rows.i c.rows.i rows row inside (c.rows.invariant.told files told) (sym (zero-add c.rows.i)) read.0 read.1);
+    }
+
+pub returns-clause-told : goal.returns-clause-told
+returns-clause-told g c = λ files told content there is head_of. record {
+  ok = λ j i k part row inner.
+      let head = c.args.head.now in
+      let count = length (data_of head.set) in
+      let kind = cipher_rows head.kind head.set head.parts c.requires.kind in
+      let rows = kind.0 in
+      let all = ap (λ (m : ℕ). head.parts * m) c.data_count-count.ensures in
+      let bytes = contents files c.args.name.now in
+      let file = file_of_head bytes head content is head_of in
+      let below : j * count + i < 3 * count = place_inside count 3 j i part row in
+      ⊎_elim (λ (lt : j * count + i < head.parts * count).
+      row_read files c.args.name.now (content_with head content.words) g.row.N 0 c.rows.i (j * count + i) (j * count + i) k c.rows.into.rows
+      (c.rows.invariant.told files told) file c.requires.degree (omega arith) (sym (zero-add (j * count + i))) (omega arith) inner)
+      (λ (le : head.parts * count ≤ j * count + i).
+      c.rows.invariant.rest (j * count + i) k le (omega arith) inner
+      ∙ sym (row_past bytes (content_with head content.words) g.row.N (j * count + i) k file c.requires.degree (omega arith)))
+      (cases_lt (j * count + i) (head.parts * count));
+  never = tt;
+}
