@@ -7,64 +7,47 @@ use Rattle.rand_core.specs.Steps.{stream_of, steps_u32}
 use Rattle.rand_chacha.specs.ChaCha.{next_word, of_seed}
 use Rattle.outer_io.specs.Store.{Files, file}
 use Rattle.set_table.specs.declared.SetName.{SetName}
-use Rattle.set_table.specs.declared.SetName.TheVariants.{One16}
 use Rattle.set_table.specs.Sets.{degree_of, plain_of, data_of}
 use Rattle.script_text.specs.declared.faults.ValuePlace.{ValuePlace}
 use Rattle.script_text.specs.Reading.{values_of}
-use Rattle.bound_num.specs.Bound.{IsUp}
-use Rattle.bound_num.proofs.Grid.{up_unique}
 use Rattle.bfv_model.specs.declared.file_kind.FileKind.{FileKind}
-use Rattle.bfv_model.specs.declared.file_kind.FileKind.TheVariants.{Secret, PublicKey, Cipher}
-use Rattle.bfv_model.specs.FileText.{FileContent, IsFile, file_text, bound_fits}
-use Rattle.bfv_model.specs.FileTests.{content_at}
+use Rattle.bfv_model.specs.declared.file_kind.FileKind.TheVariants.{Secret, PublicKey}
+use Rattle.bfv_model.specs.FileText.{FileContent, IsFile, file_text}
 use Rattle.bfv_model.specs.Drawn.{seed_stream, stream_word, greatest_error}
 use Rattle.bfv_model.specs.DrawnFiles.{drawn_secret_file, drawn_public_file, drawn_cipher_file}
 use Rattle.bfv_model.specs.Holds.{stored_word, secret_polynomial}
 use Rattle.bfv_model.specs.Keys.{WordsArePublicKeyOf}
-use Rattle.bfv_model.specs.NoiseBounds.{fresh_bound}
-use Rattle.bfv_model.proofs.Files.{file_is_read, number_of-once}
-use Rattle.bfv_model.proofs.DrawnFiles.{drawn_secret_file-count, drawn_secret_file-below, drawn_secret_file-KeepsRules, secret_polynomial_within, drawn_public_file-KeepsRules, drawn_public_file-IsPublicKey, drawn_cipher_file-KeepsRules, drawn_cipher_file-CipherHolds, fresh_bound-one16-IsUp, fresh_bound-one16-fits}
+use Rattle.bfv_model.proofs.DrawnFiles.{drawn_secret_file-count, drawn_secret_file-below, drawn_secret_file-KeepsRules, secret_polynomial_within, drawn_public_file-KeepsRules, drawn_public_file-IsPublicKey, drawn_cipher_file-KeepsRules, drawn_cipher_file-CipherHolds}
+use Rattle.cipher_files.specs.Heads.{wants}
+use Rattle.cipher_files.specs.declared.head.Wanted.{Wanted}
+use Rattle.cipher_files.specs.declared.head.Wanted.TheVariants as wanted
+use Rattle.cipher_files.proofs.Laws.{scanned-complete}
 use Rattle.command_words.specs.Line.{word_at}
 use Rattle.command_words.specs.declared.status.Status.TheVariants.{ShortSeed}
-use Rattle.command_model.specs.Plan.{operand, taken, is_taken, taken_seed, seed_operand, taken_values, values_or_fault, values_operand, seed_word, IsFreshCipher}
+use Rattle.command_model.specs.Plan.{operand, taken, content_or_fault, taken_seed, seed_operand, taken_values, values_or_fault, values_operand, seed_word, IsFreshCipher}
 use Rattle.command_model.specs.Plain.{Owner, Item, text, secret_of, public_key_of, sealed, State, Stands, IsItem, BelongsTo, IsSecretOf, IsPublicKeyFor, IsSealed, drawn_owner, drawn, published, sealed_if_read, sealed_under}
-use Rattle.bfv_commands.proofs.Contents.{taken_tests}
-use Rattle.bfv_commands.proofs.Outputs.{TakenFile, taken_file, taken_set}
+use Rattle.bfv_commands.proofs.FreshBounds.{fresh_bound_fits}
 
 -- ---- operands
--- the content that was taken of a file is the one that the file has
-taken_content : (kind : FileKind) (bytes : List ℕ) (content held : FileContent) → TakenFile kind (Some bytes) content → IsFile bytes held → held.kind ≡ kind → held ≡ content
-taken_content kind bytes content held found is_file kind_is =
-    let same : bytes ≡ found.bytes = let is = found.file_is in cc in
-    let read = file_is_read bytes held is_file in
-    let tests = taken_tests kind bytes (subst (λ (b : List ℕ). is_taken kind b ≡ true) (sym same) found.passes) in
-    let set : held.set ≡ One16 = number_of-once held.set One16 (sym read.head.set_is ∙ tests.head.set_is) in
-    sym read.content
-    ∙ ap (λ (s : SetName). content_at held.kind s bytes) set
-    ∙ ap (λ (k : FileKind). content_at k One16 bytes) kind_is
-    ∙ ap (content_at kind One16) same
-    ∙ found.content_is
-
 -- the content of an operand: a file has it, and it is what the file stands for
 pub record OperandContent (Is : FileContent → Type 0) (content : FileContent) : Type 0 where
   pub bytes : List ℕ
   pub is_file : IsFile bytes content
   pub is : Is content
-  pub set : content.set ≡ One16
 
 -- an operand that was taken, whose file stands for something of its kind
-pub operand_content : (words : List (List ℕ)) (files : Files) (kind : FileKind) (word : ℕ) (content : FileContent) (Is : FileContent → Type 0)
-    → ((held : FileContent) → Is held → held.kind ≡ kind) → operand words files kind word ≡ Ok content
+pub operand_content : (words : List (List ℕ)) (files : Files) (wanted : Wanted) (word : ℕ) (content : FileContent) (Is : FileContent → Type 0)
+    → ((held : FileContent) → Is held → wants wanted held.kind ≡ true) → operand words files wanted word ≡ Ok content
     → (bytes : List ℕ) × ((file files (word_at words word) ≡ Some bytes) × ((held : FileContent) × (IsFile bytes held × Is held))) → OperandContent Is content
-operand_content words files kind word content Is is_kind is (bytes, (at, (held, (is_file, held_is)))) =
-    let found = taken_file kind word (Some bytes) content (ap (taken kind word) (sym at) ∙ is) in
-    let same = taken_content kind bytes content held found is_file (is_kind held held_is) in
-    record {
-      bytes = bytes;
-      is_file = subst (IsFile bytes) same is_file;
-      is = subst Is same held_is;
-      set = taken_set kind (Some bytes) content found;
-    }
+operand_content words files wanted word content Is is_wanted is (bytes, (at, (held, (is_file, held_is)))) =
+    let scanned_is : taken wanted word (Some bytes) ≡ Ok held = ap (content_or_fault word) (scanned-complete wanted bytes held is_file (is_wanted held held_is)) in
+    let same : held ≡ content = let both : Ok held ≡ Ok content = sym scanned_is ∙ ap (taken wanted word) (sym at) ∙ is in cc in
+    record { bytes = bytes; is_file = subst (IsFile bytes) same is_file; is = subst Is same held_is }
+
+-- a content that belongs to an owner is of a wanted kind
+pub belongs_wanted : (wanted : Wanted) (owner : Owner) (kind : FileKind) (content : FileContent) → wants wanted kind ≡ true → BelongsTo owner kind content
+    → wants wanted content.kind ≡ true
+belongs_wanted wanted owner kind content fits belongs = ap (wants wanted) belongs.is_kind ∙ fits
 
 -- the owner of a secret, by the set and the key id that a content states
 abbrev owner_of : FileContent → List ℕ → Owner
@@ -93,39 +76,39 @@ taken_stream word bytes seed is = of_test (nat_lt (length bytes) 32) is
         (ap (take 32) (sym front) ∙ take-take 32 32 bytes (le_refl 32))
 
 -- what is drawn is a secret, and its seed is a text
-pub record Drawn (source : Option Item) (item : Item) : Type 0 where
+pub record Drawn (set : SetName) (source : Option Item) (item : Item) : Type 0 where
   pub seed : List ℕ
   pub source_is : source ≡ Some (text seed)
-  pub item_is : item ≡ secret_of (drawn_owner One16 seed)
+  pub item_is : item ≡ secret_of (drawn_owner set seed)
 
-drawn_is : (source : Option Item) (item : Item) → drawn One16 source ≡ Some item → Drawn source item
-drawn_is (Some (text seed)) item is = record { seed = seed; source_is = refl; item_is = cc }
-drawn_is _ item is = absurd (cc)
+drawn_is : (set : SetName) (source : Option Item) (item : Item) → drawn set source ≡ Some item → Drawn set source item
+drawn_is set (Some (text seed)) item is = record { seed = seed; source_is = refl; item_is = cc }
+drawn_is set _ item is = absurd (cc)
 
 -- the file of a drawn secret is that of its owner
-drawn_file_is_secret : (seed : List ℕ) → IsSecretOf (drawn_owner One16 seed) (drawn_secret_file One16 (seed_word seed))
+drawn_file_is_secret : (set : SetName) (seed : List ℕ) → IsSecretOf (drawn_owner set seed) (drawn_secret_file set (seed_word seed))
 unfolding drawn_secret_file
-drawn_file_is_secret seed = record {
+drawn_file_is_secret set seed = record {
   belongs = record {
     is_kind = refl;
     of_set = refl;
     of_key = refl;
-    ternary = record { count = drawn_secret_file-count One16 (seed_word seed); below = drawn_secret_file-below One16 (seed_word seed) };
+    ternary = record { count = drawn_secret_file-count set (seed_word seed); below = drawn_secret_file-below set (seed_word seed) };
   };
   words = refl;
 }
 
 -- the file that `secret` writes stands for what the plain machine draws
-pub item_drawn : (words : List (List ℕ)) (files : Files) (state : State) (seed bytes : List ℕ) (item : Item) → Stands files state → seed_operand words files 2 ≡ Ok seed
-    → bytes ≡ file_text (drawn_secret_file One16 (seed_word seed)) → drawn One16 (state (word_at words 2)) ≡ Some item → IsItem item bytes
-item_drawn words files state seed bytes item stands seed_is made is =
-    let d = drawn_is (state (word_at words 2)) item is in
+pub item_drawn : (words : List (List ℕ)) (files : Files) (state : State) (set : SetName) (seed bytes : List ℕ) (item : Item) → Stands files state
+    → seed_operand words files 2 ≡ Ok seed → bytes ≡ file_text (drawn_secret_file set (seed_word seed)) → drawn set (state (word_at words 2)) ≡ Some item → IsItem item bytes
+item_drawn words files state set seed bytes item stands seed_is made is =
+    let d = drawn_is set (state (word_at words 2)) item is in
     let source = text_at files state (word_at words 2) d.seed stands d.source_is in
     let stream : seed_stream seed ≡ seed_stream d.seed = taken_stream 2 d.seed seed (ap (taken_seed 2) (sym source) ∙ seed_is) in
-    let same : bytes ≡ file_text (drawn_secret_file One16 (seed_word d.seed)) =
-    made ∙ ap (λ (s : Stream). file_text (drawn_secret_file One16 (λ place. stream_word s place))) stream in
+    let same : bytes ≡ file_text (drawn_secret_file set (seed_word d.seed)) =
+    made ∙ ap (λ (s : Stream). file_text (drawn_secret_file set (λ place. stream_word s place))) stream in
     subst (λ (i : Item). IsItem i bytes) (sym d.item_is)
-    (drawn_secret_file One16 (seed_word d.seed), (record { text = same; rules = drawn_secret_file-KeepsRules One16 (seed_word d.seed) }, drawn_file_is_secret d.seed))
+    (drawn_secret_file set (seed_word d.seed), (record { text = same; rules = drawn_secret_file-KeepsRules set (seed_word d.seed) }, drawn_file_is_secret set d.seed))
 
 -- ---- a public key
 -- what is published is a public key, and its source is a secret
@@ -157,10 +140,10 @@ drawn_file_is_public_key owner secret seed of_owner =
 
 -- the file that `public` writes stands for what the plain machine publishes
 pub item_published : (words : List (List ℕ)) (files : Files) (state : State) (secret : FileContent) (seed bytes : List ℕ) (item : Item) → Stands files state
-    → operand words files Secret 1 ≡ Ok secret → bytes ≡ file_text (drawn_public_file secret (seed_word seed)) → published (state (word_at words 1)) ≡ Some item → IsItem item bytes
+    → operand words files wanted.Secret 1 ≡ Ok secret → bytes ≡ file_text (drawn_public_file secret (seed_word seed)) → published (state (word_at words 1)) ≡ Some item → IsItem item bytes
 item_published words files state secret seed bytes item stands secret_is made is =
     let p = published_is (state (word_at words 1)) item is in
-    let source = operand_content words files Secret 1 secret (IsSecretOf p.owner) (λ _ s. s.belongs.is_kind) secret_is
+    let source = operand_content words files wanted.Secret 1 secret (IsSecretOf p.owner) (λ held s. belongs_wanted wanted.Secret p.owner Secret held refl s.belongs) secret_is
     (stands.each (word_at words 1) (secret_of p.owner) p.source_is) in
     subst (λ (i : Item). IsItem i bytes) (sym p.item_is) (
       drawn_public_file secret (seed_word seed),
@@ -190,17 +173,6 @@ sealed_is (Some (public_key_of owner)) (Some (text bytes)) item is = of_read (va
         record { owner = owner; bytes = bytes; listed = listed; key_is = refl; source_is = refl; listed_is = listed_is; item_is = cc }
     of_read (Err place) listed_is is = absurd (cc)
 sealed_is _ _ item is = absurd (cc)
-
--- the bound of a fresh cipher of the smallest set fits its limit
-fresh_bound_fits : (set : SetName) (mantissa exponent : ℕ) → set ≡ One16 → IsUp (fresh_bound (degree_of set) (plain_of set) greatest_error) mantissa exponent
-    → bound_fits Cipher set mantissa exponent ≡ true
-fresh_bound_fits set mantissa exponent set_is up =
-    let up_one16 : IsUp 178358 mantissa exponent = subst (λ (s : SetName). IsUp (fresh_bound (degree_of s) (plain_of s) greatest_error) mantissa exponent) set_is up in
-    let same = up_unique 178358 mantissa exponent 178358 0 up_one16 fresh_bound-one16-IsUp in
-    ap (λ (s : SetName). bound_fits Cipher s mantissa exponent) set_is
-    ∙ ap (λ (m : ℕ). bound_fits Cipher One16 m exponent) same.0
-    ∙ ap (bound_fits Cipher One16 178358) same.1
-    ∙ fresh_bound-one16-fits
 
 -- the content of a fresh cipher
 abbrev fresh_content : (public : FileContent) (listed seed bytes : List ℕ) → IsFreshCipher public listed seed bytes → FileContent
@@ -236,11 +208,11 @@ same_values word bytes listed read public_set owner_set same taken_is read_is =
 
 -- the file that `encrypt` writes stands for what the plain machine seals
 pub item_sealed : (words : List (List ℕ)) (files : Files) (state : State) (public : FileContent) (listed seed bytes : List ℕ) (item : Item) → Stands files state
-    → operand words files PublicKey 1 ≡ Ok public → values_operand public.set words files 3 ≡ Ok listed → IsFreshCipher public listed seed bytes
+    → operand words files wanted.Public 1 ≡ Ok public → values_operand public.set words files 3 ≡ Ok listed → IsFreshCipher public listed seed bytes
     → sealed_under (state (word_at words 1)) (state (word_at words 3)) ≡ Some item → IsItem item bytes
 item_sealed words files state public listed seed bytes item stands public_is listed_is fresh is =
     let s = sealed_is (state (word_at words 1)) (state (word_at words 3)) item is in
-    let key = operand_content words files PublicKey 1 public (IsPublicKeyFor s.owner) (λ _ k. k.belongs.is_kind) public_is
+    let key = operand_content words files wanted.Public 1 public (IsPublicKeyFor s.owner) (λ held k. belongs_wanted wanted.Public s.owner PublicKey held refl k.belongs) public_is
     (stands.each (word_at words 1) (public_key_of s.owner) s.key_is) in
     let source = text_at files state (word_at words 3) s.bytes stands s.source_is in
     let values : listed ≡ s.listed = same_values 3 s.bytes listed s.listed public.set s.owner.set key.is.belongs.of_set
@@ -251,7 +223,7 @@ item_sealed words files state public listed seed bytes item stands public_is lis
         record {
           text = fresh.text;
           rules = drawn_cipher_file-KeepsRules public fresh.plaintext fresh.mantissa fresh.exponent (seed_word seed) key.is_file.rules.key_id
-              (fresh_bound_fits public.set fresh.mantissa fresh.exponent key.set fresh.bound);
+              (fresh_bound_fits public.set fresh.mantissa fresh.exponent fresh.bound);
         },
         subst (λ (vs : List ℕ). IsSealed s.owner vs (fresh_content public listed seed bytes fresh)) values
             (fresh_cipher_is_sealed s.owner public listed seed bytes fresh key.is),

@@ -1,60 +1,38 @@
 -- A command that is done takes the files to what the plain machine steps to.
-use Rattle.std.proofs.Common.{◌≡◌, ℕ, ◌<◌, List, [], ◌∷◌, refl, sym, ◌∙◌, ap, subst, lit<, pos}
-use Rattle.std.specs.Prelude.{Bool, true, false, ◌&&◌, ◌==◌, if◌then◌else◌, length, Option, Some, None, Result, Ok}
+use Rattle.std.proofs.Common.{◌≡◌, ℕ, List, refl, sym, ◌∙◌, ap, subst}
+use Rattle.std.specs.Prelude.{Bool, true, false, ◌&&◌, ◌==◌, if◌then◌else◌, length, Option, Some, None, option_and_then, Result, Ok}
 use Rattle.std.specs.Str.{bytes_eq}
 use Rattle.std.specs.FinMap as map
 use Rattle.std.proofs.lemmas.Slice.Eq.{bytes_eq-Decides}
 use Rattle.std.proofs.lemmas.Bool.{eqb-true, and_parts}
 use Rattle.outer_io.specs.Store.{Files}
 use Rattle.set_table.specs.declared.SetName.{SetName}
-use Rattle.set_table.specs.declared.SetName.TheVariants.{One16}
 use Rattle.set_table.specs.Sets.{number_of, degree_of, plain_of, data_of}
-use Rattle.ring_law.specs.Moduli.{product}
 use Rattle.ring_law.specs.Rows.{natural_polynomial}
-use Rattle.ring_law.proofs.Congruence.{Congruent-sym}
-use Rattle.ring_law.proofs.Residues.{Congruent-residue}
 use Rattle.script_text.specs.Values.{printed_values}
 use Rattle.bound_num.specs.Bound.{bound_value}
 use Rattle.bfv_model.specs.declared.file_kind.FileKind.{FileKind}
 use Rattle.bfv_model.specs.declared.file_kind.FileKind.TheVariants.{Secret, Cipher}
 use Rattle.bfv_model.specs.FileText.{FileContent, IsFile, bound_fits}
 use Rattle.bfv_model.specs.DrawnFiles.{drawn_secret_file, drawn_public_file}
-use Rattle.bfv_model.specs.Holds.{CipherHolds, Holds, stored_word, secret_polynomial, phase}
+use Rattle.bfv_model.specs.Holds.{CipherHolds, stored_word, secret_polynomial}
 use Rattle.bfv_model.specs.Slots.{slots_of}
-use Rattle.bfv_model.proofs.Ciphers.{CipherHolds-one_modulus}
-use Rattle.bfv_model.proofs.Rounding.{decryption_by_rounding}
 use Rattle.bfv_model.proofs.Rules.{cipher_bound-room}
 use Rattle.bfv_model.proofs.Files.{number_of-once}
+use Rattle.cipher_files.specs.declared.head.Wanted.TheVariants as wanted
 use Rattle.command_words.specs.Form.{form_of}
 use Rattle.command_words.specs.Line.{word_at}
 use Rattle.command_words.specs.declared.form.Form.{Form}
 use Rattle.command_words.specs.declared.form.Form.TheVariants as form
 use Rattle.command_words.specs.declared.status.Status.{Status}
-use Rattle.command_model.specs.Plan.{Output, file_with, sealing, values, plan, plan_of_form, operand, out_name, seed_word}
-use Rattle.command_model.specs.Plain.{Owner, Item, text, secret_of, sealed, State, Stands, IsItem, IsSecretOf, IsSealed, opened, same_owner, item_made, with_item, with_item_at, step, step_of_form}
+use Rattle.command_model.specs.Plan.{Output, file_with, sealing, values, plan_of_form, operand, out_name, seed_word}
+use Rattle.command_model.specs.Plain.{Owner, Item, text, secret_of, sealed, drawn, State, Stands, IsItem, IsSecretOf, IsSealed, opened, same_owner, item_made, with_item, with_item_at, step, step_of_form}
 use Rattle.command_model.proofs.Standing.{stands_with}
-use Rattle.bfv_commands.specs.Decrypted.{modulus, part, phase_residue, plaintext, decrypted_values}
-use Rattle.bfv_commands.specs.Stages.{AreWritten, IsMade}
-use Rattle.bfv_commands.proofs.Decrypting.{slots-ext}
+use Rattle.bfv_commands.specs.Stages.{AreWritten, IsMade, IsDecryption}
 use Rattle.bfv_commands.proofs.Outputs.{planned_secret, planned_public_key, planned_cipher, planned_values}
-use Rattle.bfv_commands.proofs.MadeItems.{operand_content, item_drawn, item_published, item_sealed}
+use Rattle.bfv_commands.proofs.MadeItems.{operand_content, belongs_wanted, item_drawn, item_published, item_sealed}
 
 -- ---- opened values
--- a cipher of the smallest set that holds a plaintext within the bound that it states decrypts to its slots
-decrypted_slots : (s words : List ℕ) (m : ℕ → ℕ) (mantissa exponent : ℕ) → bound_fits Cipher One16 mantissa exponent ≡ true
-    → CipherHolds 16 (modulus ∷ []) 257 (stored_word 16 1 words) (secret_polynomial s) m (bound_value mantissa exponent)
-    → decrypted_values s words ≡ slots_of One16 (natural_polynomial m)
-unfolding decrypted_values phase_residue product
-decrypted_slots s words m mantissa exponent fits holds = slots-ext 16 257 136 (natural_polynomial (plaintext s words)) (natural_polynomial m) (λ k below. ap pos (at k below))
-  where
-    whole : Holds 16 modulus 257 (natural_polynomial (part words 0)) (natural_polynomial (part words 1)) (natural_polynomial (part words 2)) (secret_polynomial s) m (bound_value mantissa exponent)
-    whole = CipherHolds-one_modulus (lit< tt) (lit< tt) holds
-
-    at : (k : ℕ) → k < 16 → plaintext s words k ≡ m k
-    at k below = decryption_by_rounding 16 modulus 257 (natural_polynomial (part words 0)) (natural_polynomial (part words 1)) (natural_polynomial (part words 2))
-        (secret_polynomial s) m (bound_value mantissa exponent) (lit< tt) whole (cipher_bound-room One16 mantissa exponent fits) (phase_residue s words) k below
-        (Congruent-sym modulus (Congruent-residue modulus (phase 16 (natural_polynomial (part words 0)) (natural_polynomial (part words 1)) (natural_polynomial (part words 2)) (secret_polynomial s) k) (lit< tt)))
-
 -- owners that pass the test of being one have one set and one secret
 same_owner_is : (a b : Owner) → same_owner a b ≡ true → (a.set ≡ b.set) × (a.secret ≡ b.secret)
 same_owner_is a b same =
@@ -62,18 +40,20 @@ same_owner_is a b same =
     let inner = and_parts (bytes_eq a.key_id b.key_id) (bytes_eq a.secret b.secret) outer.1 in
     (number_of-once a.set b.set (eqb-true (number_of a.set) (number_of b.set) outer.0), (bytes_eq-Decides a.secret b.secret).0 inner.1)
 
--- a sealed cipher of the smallest set decrypts under its owner's secret to the values that it seals
-sealed_values : (owner : Owner) (vs : List ℕ) (cipher : FileContent) (secret : List ℕ) (bytes : List ℕ) → IsFile bytes cipher → IsSealed owner vs cipher → owner.set ≡ One16 → secret ≡ owner.secret
-    → decrypted_values secret cipher.words ≡ vs
-sealed_values owner vs cipher secret bytes file_of is_sealed set same =
+-- the bytes that are made of a sealed cipher under its owner's secret are the printed values that it seals
+sealed_values : (owner : Owner) (vs : List ℕ) (secret cipher : FileContent) (bytes made : List ℕ) → IsFile bytes cipher → IsSealed owner vs cipher → secret.words ≡ owner.secret
+    → IsDecryption secret cipher made → made ≡ printed_values vs
+sealed_values owner vs secret cipher bytes made file_of is_sealed same is =
+    let set = is_sealed.belongs.of_set in
     let fits : bound_fits cipher.kind cipher.set cipher.mantissa cipher.exponent ≡ true = file_of.rules.bound in
-    let kind_fits = subst (λ (k : FileKind). bound_fits k cipher.set cipher.mantissa cipher.exponent ≡ true) is_sealed.belongs.is_kind fits in
-    let set_fits = subst (λ (z : SetName). bound_fits Cipher z cipher.mantissa cipher.exponent ≡ true) (is_sealed.belongs.of_set ∙ set) kind_fits in
-    let holds = subst (λ (z : SetName). CipherHolds (degree_of z) (data_of z) (plain_of z) (stored_word (degree_of z) (length (data_of z)) cipher.words) (secret_polynomial owner.secret) is_sealed.plaintext (bound_value cipher.mantissa cipher.exponent)) set is_sealed.holds in
-    ap (λ (s : List ℕ). decrypted_values s cipher.words) same
-    ∙ decrypted_slots owner.secret cipher.words is_sealed.plaintext cipher.mantissa cipher.exponent set_fits holds
-    ∙ ap (λ (z : SetName). slots_of z (natural_polynomial is_sealed.plaintext)) (sym set)
-    ∙ sym is_sealed.slots
+    let room = cipher_bound-room cipher.set cipher.mantissa cipher.exponent (subst (λ (k : FileKind). bound_fits k cipher.set cipher.mantissa cipher.exponent ≡ true) is_sealed.belongs.is_kind fits) in
+    let of_set = subst (λ (z : SetName). CipherHolds (degree_of z) (data_of z) (plain_of z) (stored_word (degree_of z) (length (data_of z)) cipher.words)
+    (secret_polynomial owner.secret) is_sealed.plaintext (bound_value cipher.mantissa cipher.exponent)) (sym set) is_sealed.holds in
+    let holds = subst (λ (s : List ℕ). CipherHolds (degree_of cipher.set) (data_of cipher.set) (plain_of cipher.set) (stored_word (degree_of cipher.set) (length (data_of cipher.set)) cipher.words)
+    (secret_polynomial s) is_sealed.plaintext (bound_value cipher.mantissa cipher.exponent)) (sym same) of_set in
+    is.right is_sealed.plaintext (bound_value cipher.mantissa cipher.exponent) holds room
+    ∙ ap (λ (z : SetName). printed_values (slots_of z (natural_polynomial is_sealed.plaintext))) set
+    ∙ ap printed_values (sym is_sealed.slots)
 
 -- what is opened is a text of sealed values, whose owner has the secret
 pub record Opened (secret cipher : Option Item) (item : Item) : Type 0 where
@@ -95,18 +75,16 @@ opened_is _ _ item is = absurd (cc)
 
 -- the bytes that `decrypt` writes stand for what the plain machine opens
 item_opened : (words : List (List ℕ)) (files : Files) (state : State) (secret cipher : FileContent) (bytes : List ℕ) (item : Item) → Stands files state
-    → operand words files Secret 1 ≡ Ok secret → operand words files Cipher 2 ≡ Ok cipher → bytes ≡ printed_values (decrypted_values secret.words cipher.words)
+    → operand words files wanted.Secret 1 ≡ Ok secret → operand words files wanted.Cipher 2 ≡ Ok cipher → IsDecryption secret cipher bytes
     → opened (state (word_at words 1)) (state (word_at words 2)) ≡ Some item → IsItem item bytes
 item_opened words files state secret cipher bytes item stands secret_is cipher_is made is =
     let o = opened_is (state (word_at words 1)) (state (word_at words 2)) item is in
-    let key = operand_content words files Secret 1 secret (IsSecretOf o.owner) (λ _ s. s.belongs.is_kind) secret_is
+    let key = operand_content words files wanted.Secret 1 secret (IsSecretOf o.owner) (λ held s. belongs_wanted wanted.Secret o.owner Secret held refl s.belongs) secret_is
     (stands.each (word_at words 1) (secret_of o.owner) o.secret_is) in
-    let source = operand_content words files Cipher 2 cipher (IsSealed o.other o.sealed_values) (λ _ s. s.belongs.is_kind) cipher_is
+    let source = operand_content words files wanted.Cipher 2 cipher (IsSealed o.other o.sealed_values) (λ held s. belongs_wanted wanted.Cipher o.other Cipher held refl s.belongs) cipher_is
     (stands.each (word_at words 2) (sealed o.other o.sealed_values) o.cipher_is) in
-    let set : o.other.set ≡ One16 = sym source.is.belongs.of_set ∙ source.set in
-    let found : decrypted_values secret.words cipher.words ≡ o.sealed_values =
-    sealed_values o.other o.sealed_values cipher secret.words source.bytes source.is_file source.is set (key.is.words ∙ (same_owner_is o.owner o.other o.same).1) in
-    subst (λ (i : Item). IsItem i bytes) (sym o.item_is) (made ∙ ap printed_values found)
+    subst (λ (i : Item). IsItem i bytes) (sym o.item_is)
+    (sealed_values o.other o.sealed_values secret cipher source.bytes bytes source.is_file source.is (key.is.words ∙ (same_owner_is o.owner o.other o.same).1) made)
 
 -- ---- a command that is done
 -- what is made for an output is made for the one that its operands say
@@ -118,8 +96,9 @@ item_of_output : (form : Form) (words : List (List ℕ)) (files : Files) (state 
     → plan_of_form (Some form) words files ≡ Ok output → IsMade output bytes → item_made form words state ≡ Some item → IsItem item bytes
 item_of_output form.Secret words files state output bytes item stands planned made is =
     let p = planned_secret words files output planned in
-    item_drawn words files state p.seed bytes item stands p.seed_is
-    (made_as output (file_with (drawn_secret_file One16 (seed_word p.seed))) bytes p.output_is made) is
+    item_drawn words files state p.set p.seed bytes item stands p.seed_is
+    (made_as output (file_with (drawn_secret_file p.set (seed_word p.seed))) bytes p.output_is made)
+    (ap (option_and_then (λ set. drawn set (state (word_at words 2)))) (sym p.set_is) ∙ is)
 item_of_output form.Public words files state output bytes item stands planned made is =
     let p = planned_public_key words files output planned in
     item_published words files state p.secret p.seed bytes item stands p.secret_is
@@ -148,8 +127,7 @@ stands_written form words before after state (Some name) planned is told stands 
 
 -- at Done the files stand for the plain machine's next state
 pub stands_after : (form : Form) (words : List (List ℕ)) (before after : Files) (state : State) → form_of words ≡ Some form
-    → AreWritten (out_name (Some form) words) (plan words before) before (Some after) → Stands before state → Stands after (step words state)
+    → AreWritten (out_name (Some form) words) (plan_of_form (Some form) words before) before (Some after) → Stands before state → Stands after (step words state)
 stands_after form words before after state is told stands =
     subst (λ (f : Option Form). Stands after (step_of_form f words state)) (sym is)
-    (stands_written form words before after state (out_name (Some form) words) (plan words before)
-    (ap (λ (f : Option Form). plan_of_form f words before) (sym is)) told stands)
+    (stands_written form words before after state (out_name (Some form) words) (plan_of_form (Some form) words before) refl told stands)

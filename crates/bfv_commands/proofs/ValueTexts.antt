@@ -1,5 +1,5 @@
 -- The values of a text, of which at most a byte too many was read.
-use Rattle.std.proofs.Common.{◌≡◌, ℕ, zero, suc, ◌+◌, ◌-◌, ◌<◌, ◌≤◌, ⊎_elim, List, [], ◌∷◌, ◌++◌, length, slice_index, take, refl, sym, ◌∙◌, ap, subst, arith, cond, lit<}
+use Rattle.std.proofs.Common.{◌≡◌, ℕ, zero, suc, ◌+◌, ◌-◌, ◌<◌, ◌≤◌, ⊎_elim, List, [], ◌∷◌, ◌++◌, length, slice_index, take, refl, sym, ◌∙◌, ap, subst, arith, cond}
 use Rattle.std.specs.Prelude.{not, nat_le, nat_lt, position, replicate, Option, Some, None, option_map, Result, Ok, Err, if◌then◌else◌}
 use Rattle.std.specs.List.{position_or_len}
 use Rattle.std.specs.Option.{option_or}
@@ -8,13 +8,13 @@ use Rattle.std.proofs.lemmas.Bool.Decides.{nat_tests}
 use Rattle.std.proofs.lemmas.List.{length-append, length-replicate, get_or_append_left, get_or-replicate}
 use Rattle.std.proofs.Math.Seq.{get_or-append_right}
 use Rattle.set_table.specs.declared.SetName.{SetName}
-use Rattle.set_table.specs.declared.SetName.TheVariants.{One16}
 use Rattle.set_table.specs.Sets.{degree_of, plain_of}
 use Rattle.script_text.specs.declared.faults.ValuePlace.{ValuePlace}
 use Rattle.script_text.specs.declared.faults.ValuePlace.TheVariants.{TooLarge, TooMany, TooLong}
 use Rattle.script_text.specs.Reading.{values_of, values_unless, fault_of_text, numbers}
 use Rattle.command_model.specs.Plan.{values_or_fault}
-use Rattle.bfv_commands.specs.Encrypted.{AreValues}
+use Rattle.bfv_commands.specs.Operands.{AreValues}
+use Rattle.slot_batch.proofs.Plaintexts.{plain_positive}
 use Rattle.bfv_commands.proofs.Fronts.{front_enough}
 
 -- a text that is too long is refused as such
@@ -77,9 +77,9 @@ pub are_values : (set : SetName) (text listed : List ℕ) → 0 < plain_of set �
 are_values set text listed positive is = let fit = values_fit text listed (degree_of set) (plain_of set) positive is in record { count = fit.0; below = fit.1 }
 
 -- the values of a text that was taken
-pub values_of_taken : (word : ℕ) (text listed : List ℕ) → values_or_fault word (values_of text 16 257) ≡ Ok listed → AreValues One16 listed
-values_of_taken word text listed is = of_result (values_of text 16 257) refl is
+pub values_of_taken : (set : SetName) (word : ℕ) (text listed : List ℕ) → values_or_fault word (values_of text (degree_of set) (plain_of set)) ≡ Ok listed → AreValues set listed
+values_of_taken set word text listed is = of_result (values_of text (degree_of set) (plain_of set)) refl is
   where
-    of_result : (read : Result (List ℕ) ValuePlace) → values_of text 16 257 ≡ read → values_or_fault word read ≡ Ok listed → AreValues One16 listed
-    of_result (Ok values) found is = let same : values ≡ listed = cc in are_values One16 text listed (lit< tt) (found ∙ ap Ok same)
+    of_result : (read : Result (List ℕ) ValuePlace) → values_of text (degree_of set) (plain_of set) ≡ read → values_or_fault word read ≡ Ok listed → AreValues set listed
+    of_result (Ok values) found is = let same : values ≡ listed = cc in are_values set text listed (plain_positive set) (found ∙ ap Ok same)
     of_result (Err place) found is = absurd (cc)

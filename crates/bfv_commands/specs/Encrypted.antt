@@ -1,19 +1,17 @@
--- The values that are encrypted, and the words of a fresh cipher of the smallest set.
-use Rattle.std.specs.Prelude.{◌≡◌, ℕ, ◌<◌, List, length, slice_index}
+-- Ciphers that are drawn for values.
+use Rattle.std.specs.Prelude.{◌≡◌, ℕ, ◌<◌, List, length}
 use Rattle.set_table.specs.declared.SetName.{SetName}
-use Rattle.set_table.specs.declared.SetName.TheVariants.{One16}
 use Rattle.set_table.specs.Sets.{degree_of, plain_of, data_of}
 use Rattle.ring_law.specs.Moduli.{product}
+use Rattle.ring_law.specs.Rows.{natural_polynomial}
 use Rattle.bfv_model.specs.Drawn.{drawn_cipher}
-use Rattle.bfv_model.specs.Holds.{stored_word}
+use Rattle.bfv_model.specs.Slots.{slots_of}
 
--- the values are as many as the slots of a set, and each is below its plaintext modulus
-pub record AreValues (set : SetName) (listed : List ℕ) : Type 0 where
-  pub count : length listed ≡ degree_of set
-  pub below : (i : ℕ) → i < degree_of set → slice_index listed i < plain_of set
-
--- word k of a part of the cipher of a plaintext, which is listed, under a public key, whose words are listed
-unfoldable pub drawn_word : List ℕ → List ℕ → (ℕ → ℕ) → ℕ → ℕ → ℕ
-drawn_word public plaintext words part k =
-    drawn_cipher (degree_of One16) (data_of One16) (product (data_of One16)) (plain_of One16)
-    (stored_word (degree_of One16) (length (data_of One16)) public) (slice_index plaintext) words part 0 k
+-- The cipher with these words is drawn under the public key with those, from a stream of random words, for the plaintext that has
+-- the values as its slots. The words are given by part, row and place.
+pub record IsSealing (set : SetName) (key : ℕ → ℕ → ℕ → ℕ) (listed : List ℕ) (words : ℕ → ℕ) (word : ℕ → ℕ → ℕ → ℕ) : Type 0 where
+  pub plaintext : ℕ → ℕ
+  pub below : (k : ℕ) → k < degree_of set → plaintext k < plain_of set
+  pub slots : slots_of set (natural_polynomial plaintext) ≡ listed
+  pub drawn : (part i k : ℕ) → part < 2 → i < length (data_of set) → k < degree_of set
+      → word part i k ≡ drawn_cipher (degree_of set) (data_of set) (product (data_of set)) (plain_of set) key plaintext words part i k

@@ -1,4 +1,3 @@
-pub mod Decrypted
+pub mod Operands
 pub mod Encrypted
 pub mod Stages
-pub mod Texts

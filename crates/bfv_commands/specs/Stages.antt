@@ -1,29 +1,44 @@
 -- What the stages of a command say of their results.
-use Rattle.std.specs.Prelude.{◌≡◌, ◌≢◌, ◌⊎◌, ℕ, List, take, Option, Some, None, Result, Ok, Err, OnOk, IfOk, IfErr, IsOk}
+use Rattle.std.specs.Prelude.{◌≡◌, ◌≢◌, ◌⊎◌, ℕ, ◌*◌, ◌≤◌, List, length, take, Option, Some, None, Result, Ok, Err, OnOk, IfOk, IfErr, IsOk}
 use Rattle.std.specs.FinMap as map
 use Rattle.outer_io.specs.Store.{Files, StoreState, Rose}
 use Rattle.outer_io.specs.Sink.{SinkState, grown}
+use Rattle.outer_io.specs.declared.faults.StoreFault.{StoreFault}
+use Rattle.outer_io.specs.declared.faults.StoreFault.TheVariants as store
 use Rattle.command_words.specs.Line.{accepted_text}
 use Rattle.command_words.specs.Status.{parts_of}
 use Rattle.command_words.specs.declared.form.Form.{Form}
 use Rattle.command_words.specs.declared.status.Status.{Status}
 use Rattle.command_words.specs.declared.status.Status.TheVariants.{Done, Usage, Memory, ReadFault, WriteFault, MissingFile}
-use Rattle.bfv_model.specs.FileText.{file_text}
+use Rattle.set_table.specs.Sets.{degree_of, plain_of, data_of}
+use Rattle.ring_law.specs.Moduli.{product}
+use Rattle.ring_law.specs.Rows.{natural_polynomial}
+use Rattle.bfv_model.specs.FileText.{FileContent, file_text}
+use Rattle.bfv_model.specs.Holds.{CipherHolds, stored_word, secret_polynomial}
+use Rattle.bfv_model.specs.Slots.{slots_of}
 use Rattle.script_text.specs.Values.{printed_values}
-use Rattle.command_model.specs.Plan.{IsReached, IsFreshCipher, Output, file_with, sealing, values, accepted, plan, out_name}
+use Rattle.command_model.specs.Plan.{IsReached, IsFreshCipher, IsValuesText, Output, file_with, sealing, values, accepted, plan_of_form, out_name}
 use Rattle.command_model.specs.Answers.{IsFault, IsOutputLine}
-use Rattle.bfv_commands.specs.Decrypted.{decrypted_values}
 
 -- a result is the planned one, or an answer that no word and no file brings about
 pub record Planned {A B : Type 0} (planned : Result A Status) (view : B → A) (result : Result B Status) : Type 0 where
   pub ok : IfOk result (λ value. planned ≡ Ok (view value))
   pub err : IfErr result (λ status. IsFault status ⊎ (planned ≡ Err status))
 
--- the bytes that a command gives for an output, exactly
+-- the bytes are the printed values of a cipher under a secret: a text of n values below t, and the slots of whatever plaintext the
+-- cipher holds under the secret with noise of at most q/4
+pub record IsDecryption (secret cipher : FileContent) (bytes : List ℕ) : Type 0 where
+  pub text : IsValuesText cipher.set bytes
+  pub right : (m : ℕ → ℕ) (bound : ℕ)
+      → CipherHolds (degree_of cipher.set) (data_of cipher.set) (plain_of cipher.set)
+      (stored_word (degree_of cipher.set) (length (data_of cipher.set)) cipher.words) (secret_polynomial secret.words) m bound
+      → 4 * bound ≤ product (data_of cipher.set) → bytes ≡ printed_values (slots_of cipher.set (natural_polynomial m))
+
+-- what is made for an output: as determined, and for a decryption as the plaintext determines it
 abbrev pub IsMade : Output → List ℕ → Type 0
 IsMade (file_with content) bytes = bytes ≡ file_text content
 IsMade (sealing public listed seed) bytes = IsFreshCipher public listed seed bytes
-IsMade (values secret cipher) bytes = bytes ≡ printed_values (decrypted_values secret.words cipher.words)
+IsMade (values secret cipher) bytes = IsDecryption secret cipher bytes
 IsMade (accepted bound) bytes = bytes ≡ accepted_text bound
 
 -- the bytes are those of a planned output
@@ -56,11 +71,23 @@ abbrev pub AreWritten : Option (List ℕ) → Result Output Status → Files →
 AreWritten (Some name) planned before after = (bytes : List ℕ) × (PlannedBytes planned bytes × (after ≡ Some (map.insert before name bytes)))
 AreWritten None planned before after = after ≡ Some before
 
+-- what is answered where a call that writes the file OUT fails
+abbrev pub write_status : StoreFault → Status
+write_status store.Memory = Memory
+write_status store.Failed = WriteFault
+write_status store.Missing = WriteFault
+
+-- a file of this name was written with such bytes, or nothing has happened to the files and the answer is one that no word and no
+-- file brings about
+pub record Wrote {T : Type 0} (name : List ℕ) (before : Files) (after : Option Files) (Made : List ℕ → Type 0) (result : Result T Status) : Type 0 where
+  pub ok : OnOk result ((bytes : List ℕ) × (Made bytes × (after ≡ Some (map.insert before name bytes))))
+  pub err : IfErr result IsFault
+
 -- a command up to its printed line, where files are told: an Err is the refusal, or an answer that no word and no file brings about
 pub record Ran {T : Type 0} (form : Form) (words : List (List ℕ)) (before : Files) (after : Option Files) (result : Result T Status) : Type 0 where
-  pub ok : OnOk result (AreWritten (out_name (Some form) words) (plan words before) before after)
-  pub err : IfErr result (λ status. IsFault status ⊎ (plan words before ≡ Err status))
-  pub write_fault : IfErr result (λ status. status ≡ WriteFault → IsOk (plan words before))
+  pub ok : OnOk result (AreWritten (out_name (Some form) words) (plan_of_form (Some form) words before) before after)
+  pub err : IfErr result (λ status. IsFault status ⊎ (plan_of_form (Some form) words before ≡ Err status))
+  pub write_fault : IfErr result (λ status. status ≡ WriteFault → IsOk (plan_of_form (Some form) words before))
   pub read_fault : IfErr result (λ status. (word : ℕ) → status ≡ ReadFault word → IsReached (Some form) words before word)
 
 -- the line of an output is put: the answer is Done where it was put whole

@@ -1,23 +1,22 @@
 // The top call: from words to a status.
-ghost use Rattle.std.specs.Prelude.{◌≡◌, ◌≢◌, ◌⊎◌, ◌<◌, ◌≤◌, ℕ, length, map, Option, Some, None, IsSome, OnOk, OnErr, IfOk, IfErr};
+ghost use Rattle.std.specs.Prelude.{◌≡◌, ◌≢◌, ◌⊎◌, ◌<◌, length, map, Option, Some, None, IsSome, OnErr, IfOk, IfErr};
 ghost use Rattle.std.specs.Option.{ForSome, option_map};
 ghost use Rattle.std.specs.String.{string_bytes};
-ghost use Rattle.outer_io.specs.Store.{Files, OnlyReads, Rose, with_file};
+ghost use Rattle.outer_io.specs.Store.{Files};
 ghost use Rattle.command_words.specs.Form.{form_of, IsOperand, word_count};
 ghost use Rattle.command_words.specs.Status.{parts_of};
 ghost use Rattle.command_model.specs.Plan as plan;
-ghost use Rattle.command_model.specs.Answers.{Told, NoFaultRose, IsComplete, Cause, IsOutputLine, Printed};
+ghost use Rattle.command_model.specs.Answers.{Told, NoFaultRose, IsComplete, Cause, Printed};
 ghost use Rattle.command_model.specs.Plain.{State, Stands, step};
-ghost use Rattle.bfv_commands.specs.Stages.{Prepared, Caused, IsLeftToPut, Ran, Announced};
+ghost use Rattle.bfv_commands.specs.Stages.{Caused, IsLeftToPut, Ran, Announced};
 
 use crate::check::check;
 use crate::decrypt::decrypt;
 use crate::encrypt::encrypt;
-use crate::operand::name_of;
 use crate::public::public;
 use crate::secret::secret;
 use command_words::{Form, Status, form_of, put_line};
-use outer_io::{Sink, SinkFault, Store, StoreFault, write_file};
+use outer_io::{Sink, SinkFault, Store};
 use std::alloc::Global;
 
 /// Does what the words ask for.
@@ -78,71 +77,42 @@ fn run<S: Store>(
     ensures cause { IfErr result (λ s. Caused (IsOperand form) (S.state store.old) (S.state store.new) s) }
     ensures file { IfErr result (λ s. s ≡ Status.WriteFault → IsSome (plan.out_name (Some form) (map string_bytes words.now))) }
 {
-    let bytes = prepare(alloc, form, words, store)?;
-    let Some(name) = out_name(form, words) else {
-        return Ok(Some(bytes));
-    };
-    match write_out(store, name, &bytes) {
-        Ok(()) => Ok(None),
-        Err(status) => Err(status),
+    match form {
+        Form::Check => match check(alloc, words, store) {
+            Ok(line) => Ok(Some(line)),
+            Err(status) => Err(status),
+        },
+        Form::Secret | Form::Public | Form::Encrypt | Form::Decrypt => {
+            match write_out(alloc, form, words, store) {
+                Ok(()) => Ok(None),
+                Err(status) => Err(status),
+            }
+        }
     }
 }
 
-/// The bytes of the file OUT, or of the line of a command that has none. Only files are read, and
-/// nothing is written.
-fn prepare<S: Store>(
+/// Does a command that writes a file OUT.
+fn write_out<S: Store>(
     alloc: Global,
     form: Form,
     words: &[String],
     store: &mut S,
-) -> Result<Vec<u8>, Status>
+) -> Result<(), Status>
     requires form { form_of (map string_bytes words.now) ≡ Some form }
     requires count { length words.now ≡ word_count form }
-    ensures keeps { OnlyReads (S.state store.old) (S.state store.new) }
-    ensures told { ForSome (S.state store.old).files (λ files.
-        Prepared (plan.plan (map string_bytes words.now) files) (λ v. v.items) result) }
-    ensures line { plan.out_name (Some form) (map string_bytes words.now) ≡ None
-        → IfOk result (λ v. IsOutputLine (map string_bytes words.now) (S.state store.old).files v.items) }
+    requires out { IsSome (plan.out_name (Some form) (map string_bytes words.now)) }
+    requires idle { (S.state store.old).pending ≡ None }
+    ensures idle { (S.state store.new).pending ≡ None }
+    ensures told { ForSome (S.state store.old).files (λ files. Ran form (map string_bytes words.now) files (S.state store.new).files result) }
+    ensures unchanged { OnErr result ((S.state store.new).files ≡ (S.state store.old).files) }
     ensures cause { IfErr result (λ s. Caused (IsOperand form) (S.state store.old) (S.state store.new) s) }
-    ensures reads { IfErr result (λ s. s ≢ Status.WriteFault) }
-    ensures reached { ForSome (S.state store.old).files (λ files. IfErr result (λ s.
-        (word : ℕ) → s ≡ Status.ReadFault word → plan.IsReached (Some form) (map string_bytes words.now) files word)) }
 {
     match form {
         Form::Secret => secret(alloc, words, store),
         Form::Public => public(alloc, words, store),
         Form::Encrypt => encrypt(alloc, words, store),
         Form::Decrypt => decrypt(alloc, words, store),
-        Form::Check => check(alloc, words, store),
-    }
-}
-
-/// The name of the file OUT, where the form has one.
-fn out_name(form: Form, words: &[String]) -> Option<&str>
-    requires { length words.now ≡ word_count form }
-    ensures { option_map (λ name. name.now) result ≡ plan.out_name (Some form) (map string_bytes words.now) }
-{
-    match form {
-        Form::Encrypt => Some(name_of(words, 4)),
-        Form::Secret | Form::Public | Form::Decrypt => Some(name_of(words, 3)),
-        Form::Check => None,
-    }
-}
-
-/// Writes the file OUT.
-fn write_out<S: Store>(store: &mut S, name: &str, bytes: &[u8]) -> Result<(), Status>
-    ensures idle { (S.state store.new).pending ≡ None }
-    ensures ok { OnOk result ((S.state store.new).files ≡ with_file (S.state store.old).files name.now bytes.now) }
-    ensures err { OnErr result ((S.state store.new).files ≡ (S.state store.old).files) }
-    ensures faults { (S.state store.new).faults ≡ (S.state store.old).faults }
-    ensures misses { (S.state store.old).misses ≤ (S.state store.new).misses }
-    ensures answer { IfErr result (λ s. (s ≡ Status.Memory)
-        ⊎ ((s ≡ Status.WriteFault) × Rose (S.state store.old).write_faults (S.state store.new).write_faults)) }
-{
-    match write_file(store, name, bytes) {
-        Ok(()) => Ok(()),
-        Err(StoreFault::Memory) => Err(Status::Memory),
-        Err(_) => Err(Status::WriteFault),
+        Form::Check => unreachable!(),
     }
 }
 

@@ -1,53 +1,50 @@
 // The command `encrypt`.
-ghost use Rattle.std.specs.Prelude.{◌≡◌, ◌≢◌, ◌<◌, ℕ, true, length, map, slice_index, Some, IfOk, IfErr};
+ghost use Rattle.std.specs.Prelude.{◌≡◌, ◌≢◌, ◌<◌, true, length, map, Some, None, OnErr, IfOk, IfErr};
 ghost use Rattle.std.specs.Option.{ForSome};
 ghost use Rattle.std.specs.String.{string_bytes};
 ghost use Rattle.outer_io.specs.Store.{OnlyReads};
-ghost use Rattle.ring_law.specs.Rows.{row_polynomial};
-ghost use Rattle.set_table.specs.declared.SetName.TheVariants.{One16};
-ghost use Rattle.bfv_model.specs.DrawnFiles.{drawn_cipher_file};
-ghost use Rattle.bfv_model.specs.FileTests.{content_at};
-ghost use Rattle.bfv_model.specs.FileText.{file_text};
-ghost use Rattle.bfv_model.specs.Slots.{slots_of};
+ghost use Rattle.set_table.specs.Sets.{degree_of, data_of};
+ghost use Rattle.bfv_model.specs.FileText.{FileContent};
+ghost use Rattle.bfv_model.specs.Holds.{listed_word, stored_word};
+ghost use Rattle.cipher_files.specs.Heads.{HeadKeepsRules, wants};
+ghost use Rattle.cipher_files.specs.declared.head.Wanted.TheVariants as wanted;
 ghost use Rattle.command_words.specs.Form.{form_of, IsOperand};
+ghost use Rattle.command_words.specs.Line.{word_at};
 ghost use Rattle.command_words.specs.declared.form.Form.TheVariants as form;
 ghost use Rattle.command_model.specs.Plan as plan;
-ghost use Rattle.bfv_commands.specs.Stages.{Prepared, Caused};
-ghost use Rattle.bfv_commands.specs.Encrypted.{drawn_word};
+ghost use Rattle.bfv_commands.specs.Operands.{HasContent, Gives, AreValues};
+ghost use Rattle.bfv_commands.specs.Encrypted.{IsSealing};
+ghost use Rattle.bfv_commands.specs.Stages.{Ran, Wrote, Caused};
 
-use crate::drawing::{draw_cipher, scale};
-use crate::encoding::fill_plaintext;
-use crate::fields::{key_id_of, words_of};
-use crate::file_bytes::{Head, file_bytes};
-use crate::file_tests::HEAD_BYTES;
-use crate::operand::{read_operand, read_values_operand};
+use crate::operand::{name_of, read_values_operand};
+use crate::reread::public_again;
+use crate::scanned::scan_operand;
 use crate::seed::{SEED_BYTES, read_seed};
-use crate::smallest::{DEGREE, ROOT, data_modulus, plain_modulus};
+use crate::writing::write_status;
 use bfv_model::FileKind;
-use bound_num::Bound;
+use bfv_params::{Cipher, Context, Public};
+use cipher_files::{Head, Wanted, write_cipher};
 use command_words::Status;
+use noise_check::fresh;
 use outer_io::Store;
 use rand_chacha::ChaCha20Rng;
 use rand_core::SeedableRng;
+use rns_poly::PolyBuf;
+use set_table::SetName;
+use slot_batch::encode;
 use std::alloc::{AllocError, Global};
 
-/// The bound on the noise of a fresh cipher of the smallest set: `t * ((2n + 1) * 21 + 1)`.
-const FRESH_BOUND: Bound = Bound { m: 178_358, e: 0 };
-
-/// The bytes that `encrypt PUB SEEDFILE VALUES OUT` writes. Only files are read, and nothing is
-/// written.
-pub fn encrypt<S: Store>(alloc: Global, words: &[String], store: &mut S) -> Result<Vec<u8>, Status>
+/// Does `encrypt PUB SEEDFILE VALUES OUT`.
+pub fn encrypt<S: Store>(alloc: Global, words: &[String], store: &mut S) -> Result<(), Status>
     requires form { form_of (map string_bytes words.now) ≡ Some form.Encrypt }
     requires count { length words.now ≡ 5 }
-    ensures keeps { OnlyReads (S.state store.old) (S.state store.new) }
-    ensures told { ForSome (S.state store.old).files (λ files.
-        Prepared (plan.plan_of_encrypt (map string_bytes words.now) files) (λ v. v.items) result) }
+    requires idle { (S.state store.old).pending ≡ None }
+    ensures idle { (S.state store.new).pending ≡ None }
+    ensures told { ForSome (S.state store.old).files (λ files. Ran form.Encrypt (map string_bytes words.now) files (S.state store.new).files result) }
+    ensures unchanged { OnErr result ((S.state store.new).files ≡ (S.state store.old).files) }
     ensures cause { IfErr result (λ s. Caused (IsOperand form.Encrypt) (S.state store.old) (S.state store.new) s) }
-    ensures reads { IfErr result (λ s. s ≢ Status.WriteFault) }
-    ensures reached { ForSome (S.state store.old).files (λ files. IfErr result (λ s.
-        (word : ℕ) → s ≡ Status.ReadFault word → plan.IsReached (Some form.Encrypt) (map string_bytes words.now) files word)) }
 {
-    let public = match read_operand(alloc, store, words, FileKind::PublicKey, 1) {
+    let public = match scan_operand(store, words, Wanted::Public, 1) {
         Ok(public) => public,
         Err(status) => return Err(status),
     };
@@ -55,61 +52,153 @@ pub fn encrypt<S: Store>(alloc: Global, words: &[String], store: &mut S) -> Resu
         Ok(seed) => seed,
         Err(status) => return Err(status),
     };
-    let values = match read_values_operand(alloc, store, words, 3) {
+    let values = match read_values_operand(alloc, store, words, public.set, 3) {
         Ok(values) => values,
         Err(status) => return Err(status),
     };
-    match cipher_bytes(alloc, &public, &seed, &values) {
-        Ok(bytes) => Ok(bytes),
+    write_sealed(alloc, words, store, &public, &seed, &values)
+}
+
+/// Writes the file of the cipher of these values that a seed draws under a public key whose file
+/// was scanned.
+fn write_sealed<S: Store>(
+    alloc: Global,
+    words: &[String],
+    store: &mut S,
+    public: &Head,
+    seed: &[u8; SEED_BYTES],
+    values: &[u64],
+) -> Result<(), Status>
+    requires count { length words.now ≡ 5 }
+    requires rules { HeadKeepsRules public.now }
+    requires kind { wants wanted.Public public.now.kind ≡ true }
+    requires values { AreValues public.now.set values.now }
+    requires idle { (S.state store.old).pending ≡ None }
+    ensures idle { (S.state store.new).pending ≡ None }
+    ensures unchanged { OnErr result ((S.state store.new).files ≡ (S.state store.old).files) }
+    ensures told { ForSome (S.state store.old).files (λ files. (content : FileContent)
+        → HasContent (map string_bytes words.now) files 1 public.now content
+        → Wrote (word_at (map string_bytes words.now) 4) files (S.state store.new).files
+        (plan.IsFreshCipher content values.now seed.now) result) }
+    ensures cause { IfErr result (λ s. Caused (λ w. w ≡ 1) (S.state store.old) (S.state store.new) s) }
+{
+    match public.set {
+        SetName::One16 | SetName::Toy16 => write_of_degree::<S, 16>(
+            alloc, words, store, public, seed, values,
+        ),
+        SetName::S4096 => write_of_degree::<S, 4096>(alloc, words, store, public, seed, values),
+        SetName::S8192 => write_of_degree::<S, 8192>(alloc, words, store, public, seed, values),
+        SetName::S16384 => write_of_degree::<S, 16384>(alloc, words, store, public, seed, values),
+    }
+}
+
+/// The same for a set of degree N.
+fn write_of_degree<S: Store, const N: usize>(
+    alloc: Global,
+    words: &[String],
+    store: &mut S,
+    public: &Head,
+    seed: &[u8; SEED_BYTES],
+    values: &[u64],
+) -> Result<(), Status>
+    requires count { length words.now ≡ 5 }
+    requires rules { HeadKeepsRules public.now }
+    requires kind { wants wanted.Public public.now.kind ≡ true }
+    requires degree { N ≡ degree_of public.now.set }
+    requires values { AreValues public.now.set values.now }
+    requires idle { (S.state store.old).pending ≡ None }
+    ensures idle { (S.state store.new).pending ≡ None }
+    ensures unchanged { OnErr result ((S.state store.new).files ≡ (S.state store.old).files) }
+    ensures told { ForSome (S.state store.old).files (λ files. (content : FileContent)
+        → HasContent (map string_bytes words.now) files 1 public.now content
+        → Wrote (word_at (map string_bytes words.now) 4) files (S.state store.new).files
+        (plan.IsFreshCipher content values.now seed.now) result) }
+    ensures cause { IfErr result (λ s. Caused (λ w. w ≡ 1) (S.state store.old) (S.state store.new) s) }
+{
+    let cipher = match sealed::<S, N>(alloc, words, store, public, seed, values) {
+        Ok(cipher) => cipher,
+        Err(status) => return Err(status),
+    };
+    let rows = 2 * public.set.data_count();
+    let head = Head {
+        kind: FileKind::Cipher,
+        set: public.set,
+        parts: 2,
+        element: 0,
+        id: public.id,
+        bound: fresh(public.set),
+        words: (rows * N) as u64,
+    };
+    match write_cipher(store, name_of(words, 4), &head, &cipher) {
+        Ok(()) => Ok(()),
+        Err(fault) => Err(write_status(fault)),
+    }
+}
+
+/// The cipher of these values that a seed draws under that public key, which is read again.
+fn sealed<S: Store, const N: usize>(
+    alloc: Global,
+    words: &[String],
+    store: &mut S,
+    public: &Head,
+    seed: &[u8; SEED_BYTES],
+    values: &[u64],
+) -> Result<Cipher<N>, Status>
+    requires count { length words.now ≡ 5 }
+    requires rules { HeadKeepsRules public.now }
+    requires kind { wants wanted.Public public.now.kind ≡ true }
+    requires degree { N ≡ degree_of public.now.set }
+    requires values { AreValues public.now.set values.now }
+    ensures keeps { OnlyReads (S.state store.old) (S.state store.new) }
+    ensures set { IfOk result (λ cipher. cipher.set ≡ public.now.set) }
+    ensures level { IfOk result (λ cipher. cipher.level ≡ length (data_of public.now.set)) }
+    ensures parts { IfOk result (λ cipher. cipher.parts ≡ 2) }
+    ensures told { ForSome (S.state store.old).files (λ files. (content : FileContent)
+        → HasContent (map string_bytes words.now) files 1 public.now content
+        → Gives result (λ cipher. IsSealing public.now.set (stored_word (degree_of public.now.set) (length (data_of public.now.set)) content.words)
+        values.now (plan.seed_word seed.now) (listed_word (length (data_of public.now.set)) cipher.rows))) }
+    ensures cause { IfErr result (λ s. Caused (λ w. w ≡ 1) (S.state store.old) (S.state store.new) s) }
+    ensures reads { IfErr result (λ s. s ≢ Status.WriteFault) }
+{
+    let Ok(ctx) = Context::<N>::new(alloc, public.set) else {
+        return Err(Status::Memory);
+    };
+    let key = match public_again(alloc, words, store, &ctx, public, 1) {
+        Ok(key) => key,
+        Err(status) => return Err(status),
+    };
+    match sealed_under(alloc, &ctx, &key, seed, values) {
+        Ok(cipher) => Ok(cipher),
         Err(_) => Err(Status::Memory),
     }
 }
 
-/// The bytes of the cipher of these values that a seed draws under the public key of a file.
-fn cipher_bytes(
+/// The cipher of these values that a seed draws under a public key.
+fn sealed_under<const N: usize>(
     alloc: Global,
-    public: &[u8],
+    ctx: &Context<N>,
+    public: &Public<N>,
     seed: &[u8; SEED_BYTES],
     values: &[u64],
-) -> Result<Vec<u8>, AllocError>
-    requires public { plan.is_taken FileKind.PublicKey public.now ≡ true }
-    requires count { length values.now ≡ 16 }
-    requires reduced { (i : ℕ) → i < 16 → slice_index values.now i < 257 }
-    ensures { IfOk result (λ bytes. plan.IsFreshCipher (content_at FileKind.PublicKey One16 public.now) values.now seed.now bytes.items) }
+) -> Result<Cipher<N>, AllocError>
+    requires level { (ctx.now).level ≡ length (data_of (ctx.now).set) }
+    requires set { (public.now).set ≡ (ctx.now).set }
+    requires values { AreValues (ctx.now).set values.now }
+    ensures set { IfOk result (λ cipher. cipher.set ≡ (ctx.now).set) }
+    ensures level { IfOk result (λ cipher. cipher.level ≡ (ctx.now).level) }
+    ensures parts { IfOk result (λ cipher. cipher.parts ≡ 2) }
+    ensures sealing { IfOk result (λ cipher. IsSealing (ctx.now).set (listed_word (length (data_of (ctx.now).set)) (public.now).rows)
+        values.now (plan.seed_word seed.now) (listed_word (length (data_of (ctx.now).set)) cipher.rows)) }
 {
-    let mut plaintext = [0; DEGREE];
-    fill_plaintext(&plain_modulus(), ROOT, values, &mut plaintext);
-    let mut c0 = [0; DEGREE];
-    let mut c1 = [0; DEGREE];
-    fill_cipher(public, seed, &plaintext, &mut c0, &mut c1);
-    let head = Head {
-        kind: FileKind::Cipher,
-        parts: 2,
-        key_id: key_id_of(public),
-        bound: FRESH_BOUND,
+    let _set = ctx.set();
+    let mut cipher = Cipher::new(alloc, ctx)?;
+    let mut scratch = PolyBuf::new(alloc, ctx.scratch_rows())?;
+    let mut plain = Box::new(alloc, [0; N])?;
+    let Some(listed) = values.as_array::<N>() else {
+        unreachable!()
     };
-    file_bytes(alloc, &head, &c0, &c1)
-}
-
-/// The two parts of the cipher of a plaintext.
-fn fill_cipher(
-    public: &[u8],
-    seed: &[u8; SEED_BYTES],
-    plaintext: &[u64; DEGREE],
-    c0: &mut [u64; DEGREE],
-    c1: &mut [u64; DEGREE],
-)
-    requires { plan.is_taken FileKind.PublicKey public.now ≡ true }
-    ensures first { (k : ℕ) → k < 16 → slice_index c0.new k
-        ≡ drawn_word (content_at FileKind.PublicKey One16 public.now).words plaintext.now (plan.seed_word seed.now) 0 k }
-    ensures second { (k : ℕ) → k < 16 → slice_index c1.new k
-        ≡ drawn_word (content_at FileKind.PublicKey One16 public.now).words plaintext.now (plan.seed_word seed.now) 1 k }
-{
-    let (q, t) = (data_modulus(), plain_modulus());
-    let p0: [u64; DEGREE] = words_of(public, HEAD_BYTES);
-    let p1: [u64; DEGREE] = words_of(public, HEAD_BYTES + 8 * DEGREE);
-    let mut scaled = [0; DEGREE];
-    scale(&q, &t, plaintext, &mut scaled);
+    encode(ctx, listed, &mut plain);
     let mut rng = ChaCha20Rng::from_seed(*seed);
-    draw_cipher(&q, &mut rng, &p0, &p1, &scaled, c0, c1);
+    bfv_encrypt::encrypt(ctx, public, &plain, &mut cipher, &mut scratch, &mut rng);
+    Ok(cipher)
 }

@@ -5,18 +5,13 @@
 mod answer;
 mod check;
 mod decrypt;
-mod drawing;
-mod encoding;
 mod encrypt;
-mod fields;
-mod file_bytes;
-mod file_tests;
 mod operand;
 mod public;
-mod rounding;
+mod reread;
+mod scanned;
 mod secret;
 mod seed;
-mod slots;
-mod smallest;
+mod writing;
 
 pub use answer::command;

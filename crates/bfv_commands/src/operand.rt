@@ -1,22 +1,17 @@
-// The files that a command reads.
-ghost use Rattle.std.specs.Prelude.{◌≡◌, ◌≢◌, ◌⊎◌, ◌<◌, true, length, map, Some, Ok, Err, IfOk, IfErr};
+// The texts that a command reads.
+ghost use Rattle.std.specs.Prelude.{◌≡◌, ◌≢◌, ◌⊎◌, ◌<◌, length, map, Some, Ok, Err, IfOk, IfErr};
 ghost use Rattle.std.specs.Option.{ForSome};
 ghost use Rattle.std.specs.String.{string_bytes};
 ghost use Rattle.outer_io.specs.Store.{OnlyReads};
-ghost use Rattle.set_table.specs.declared.SetName.TheVariants.{One16};
-ghost use Rattle.bfv_model.specs.FileTests.{content_at};
 ghost use Rattle.script_text.specs.declared.faults.ValuePlace.{ValuePlace};
 ghost use Rattle.script_text.specs.declared.faults.ScriptPlace.{ScriptPlace};
 ghost use Rattle.command_words.specs.Line.{word_at};
 ghost use Rattle.command_model.specs.Plan as plan;
+ghost use Rattle.bfv_commands.specs.Operands.{AreValues};
 ghost use Rattle.bfv_commands.specs.Stages.{Planned, Caused};
-ghost use Rattle.bfv_commands.specs.Encrypted.{AreValues};
 
-use crate::file_tests::is_taken;
-use crate::smallest::DEGREE;
-use bfv_model::FileKind;
 use command_words::Status;
-use outer_io::{Store, StoreFault, read_file, read_front};
+use outer_io::{Store, StoreFault, read_front};
 use script_text::{Script, ScriptFault, ValueFault, parse, read_values};
 use set_table::SetName;
 use std::alloc::Global;
@@ -35,62 +30,24 @@ pub fn name_of(words: &[String], word: u32) -> &str
     words[word as usize].as_str()
 }
 
-/// The bytes of the file that a word names, where they are a file of this kind that a command
-/// takes.
-pub fn read_operand<S: Store>(
-    alloc: Global,
-    store: &mut S,
-    words: &[String],
-    kind: FileKind,
-    word: u32,
-) -> Result<Vec<u8>, Status>
-    requires { word < length words.now }
-    ensures keeps { OnlyReads (S.state store.old) (S.state store.new) }
-    ensures told { ForSome (S.state store.old).files (λ files.
-        Planned (plan.operand (map string_bytes words.now) files kind word) (λ v. content_at kind One16 v.items) result) }
-    ensures cause { IfErr result (λ s. Caused (λ w. w ≡ word) (S.state store.old) (S.state store.new) s) }
-    ensures reads { IfErr result (λ s. s ≢ Status.WriteFault) }
-    ensures taken { IfOk result (λ v. plan.is_taken kind v.items ≡ true) }
-{
-    match read_file(alloc, store, name_of(words, word)) {
-        Ok(bytes) => take(bytes, kind, word),
-        Err(StoreFault::Missing) => Err(Status::MissingFile { word }),
-        Err(StoreFault::Failed) => Err(Status::ReadFault { word }),
-        Err(StoreFault::Memory) => Err(Status::Memory),
-    }
-}
-
-/// The bytes, where a command takes them as a file of this kind.
-fn take(bytes: Vec<u8>, kind: FileKind, word: u32) -> Result<Vec<u8>, Status>
-    ensures ok { IfOk result (λ v. plan.taken kind word (Some bytes.items) ≡ Ok (content_at kind One16 v.items)) }
-    ensures err { IfErr result (λ s. plan.taken kind word (Some bytes.items) ≡ Err s) }
-    ensures refused { IfErr result (λ s. s ≡ Status.NotOurs word) }
-    ensures taken { IfOk result (λ v. plan.is_taken kind v.items ≡ true) }
-{
-    if is_taken(kind, &bytes) {
-        Ok(bytes)
-    } else {
-        Err(Status::NotOurs { word })
-    }
-}
-
-/// The values in the text that a word names, as many as the smallest set has slots.
+/// The values in the text that a word names, as many as a set has slots.
 pub fn read_values_operand<S: Store>(
     alloc: Global,
     store: &mut S,
     words: &[String],
+    set: SetName,
     word: u32,
 ) -> Result<Vec<u64>, Status>
     requires { word < length words.now }
     ensures keeps { OnlyReads (S.state store.old) (S.state store.new) }
     ensures told { ForSome (S.state store.old).files (λ files.
-        Planned (plan.values_operand One16 (map string_bytes words.now) files word) (λ v. v.items) result) }
+        Planned (plan.values_operand set (map string_bytes words.now) files word) (λ v. v.items) result) }
     ensures cause { IfErr result (λ s. Caused (λ w. w ≡ word) (S.state store.old) (S.state store.new) s) }
     ensures reads { IfErr result (λ s. s ≢ Status.WriteFault) }
-    ensures values { IfOk result (λ v. AreValues One16 v.items) }
+    ensures values { IfOk result (λ v. AreValues set v.items) }
 {
     match read_front(alloc, store, name_of(words, word), VALUES_LIMIT) {
-        Ok(text) => take_values(alloc, &text, word),
+        Ok(text) => take_values(alloc, &text, set, word),
         Err(StoreFault::Missing) => Err(Status::MissingFile { word }),
         Err(StoreFault::Failed) => Err(Status::ReadFault { word }),
         Err(StoreFault::Memory) => Err(Status::Memory),
@@ -98,12 +55,12 @@ pub fn read_values_operand<S: Store>(
 }
 
 /// The values of a text, of which at most a byte too many was read.
-fn take_values(alloc: Global, text: &[u8], word: u32) -> Result<Vec<u64>, Status>
-    ensures ok { IfOk result (λ v. plan.taken_values One16 word (Some text.now) ≡ Ok v.items) }
+fn take_values(alloc: Global, text: &[u8], set: SetName, word: u32) -> Result<Vec<u64>, Status>
+    ensures ok { IfOk result (λ v. plan.taken_values set word (Some text.now) ≡ Ok v.items) }
     ensures err { IfErr result (λ s. (s ≡ Status.Memory)
-        ⊎ ((place : ValuePlace) × ((s ≡ Status.BadValues word place) × (plan.taken_values One16 word (Some text.now) ≡ Err s)))) }
+        ⊎ ((place : ValuePlace) × ((s ≡ Status.BadValues word place) × (plan.taken_values set word (Some text.now) ≡ Err s)))) }
 {
-    match read_values(alloc, text, DEGREE, SetName::One16.plain()) {
+    match read_values(alloc, text, set.degree(), set.plain()) {
         Ok(values) => Ok(values),
         Err(ValueFault::Bad(fault)) => Err(Status::BadValues { word, fault }),
         Err(ValueFault::Memory) => Err(Status::Memory),

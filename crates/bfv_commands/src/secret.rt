@@ -1,73 +1,122 @@
 // The command `secret`.
-ghost use Rattle.std.specs.Prelude.{◌≡◌, ◌≢◌, ◌≤◌, length, map, Some, IfOk, IfErr};
+ghost use Rattle.std.specs.Prelude.{◌≡◌, length, map, Some, None, OnErr, IfOk, IfErr};
 ghost use Rattle.std.specs.Option.{ForSome};
 ghost use Rattle.std.specs.String.{string_bytes};
-ghost use Rattle.outer_io.specs.Store.{OnlyReads};
-ghost use Rattle.ring_law.specs.Sums.{values_below};
-ghost use Rattle.set_table.specs.declared.SetName.TheVariants.{One16};
-ghost use Rattle.bfv_model.specs.Drawn.{drawn_key_id, drawn_secret, stream_word};
+ghost use Rattle.set_table.specs.Sets.{degree_of};
 ghost use Rattle.bfv_model.specs.DrawnFiles.{drawn_secret_file};
 ghost use Rattle.bfv_model.specs.FileText.{file_text};
+ghost use Rattle.cipher_files.specs.Contents.{secret_words};
+ghost use Rattle.cipher_files.specs.Heads.{HeadKeepsRules, content_with};
 ghost use Rattle.command_words.specs.Form.{form_of, IsOperand};
 ghost use Rattle.command_words.specs.declared.form.Form.TheVariants as form;
 ghost use Rattle.command_model.specs.Plan as plan;
-ghost use Rattle.bfv_commands.specs.Stages.{Prepared, Caused};
+ghost use Rattle.bfv_commands.specs.Stages.{Ran, Wrote, Caused};
 
-use crate::drawing::draw_ternary;
-use crate::file_bytes::{Head, file_bytes};
+use crate::operand::name_of;
 use crate::seed::{SEED_BYTES, read_seed};
-use crate::smallest::DEGREE;
+use crate::writing::write_status;
 use bfv_model::FileKind;
+use bfv_params::{Context, Secret};
 use bound_num::Bound;
-use command_words::Status;
+use cipher_files::{Head, write_secret};
+use command_words::{Status, set_named};
 use outer_io::Store;
 use rand_chacha::ChaCha20Rng;
-use rand_core::{Rng, SeedableRng};
-use rand_words::key_id;
+use rand_core::SeedableRng;
+use set_table::SetName;
 use std::alloc::{AllocError, Global};
 
-/// The bytes that `secret SET SEEDFILE OUT` writes. Only files are read, and nothing is written.
-pub fn secret<S: Store>(alloc: Global, words: &[String], store: &mut S) -> Result<Vec<u8>, Status>
+/// Does `secret SET SEEDFILE OUT`.
+pub fn secret<S: Store>(alloc: Global, words: &[String], store: &mut S) -> Result<(), Status>
     requires form { form_of (map string_bytes words.now) ≡ Some form.Secret }
     requires count { length words.now ≡ 4 }
-    ensures keeps { OnlyReads (S.state store.old) (S.state store.new) }
-    ensures told { ForSome (S.state store.old).files (λ files.
-        Prepared (plan.plan_of_secret (map string_bytes words.now) files) (λ v. v.items) result) }
+    requires idle { (S.state store.old).pending ≡ None }
+    ensures idle { (S.state store.new).pending ≡ None }
+    ensures told { ForSome (S.state store.old).files (λ files. Ran form.Secret (map string_bytes words.now) files (S.state store.new).files result) }
+    ensures unchanged { OnErr result ((S.state store.new).files ≡ (S.state store.old).files) }
     ensures cause { IfErr result (λ s. Caused (IsOperand form.Secret) (S.state store.old) (S.state store.new) s) }
-    ensures reads { IfErr result (λ s. s ≢ Status.WriteFault) }
 {
+    let Some(set) = set_named(name_of(words, 1)) else {
+        unreachable!()
+    };
     let seed = match read_seed(store, words, 2) {
         Ok(seed) => seed,
         Err(status) => return Err(status),
     };
-    match secret_bytes(alloc, &seed) {
-        Ok(bytes) => Ok(bytes),
-        Err(_) => Err(Status::Memory),
+    write_drawn(alloc, store, name_of(words, 3), set, &seed)
+}
+
+/// Writes the file of the secret that a seed draws for a set.
+fn write_drawn<S: Store>(
+    alloc: Global,
+    store: &mut S,
+    name: &str,
+    set: SetName,
+    seed: &[u8; SEED_BYTES],
+) -> Result<(), Status>
+    requires idle { (S.state store.old).pending ≡ None }
+    ensures idle { (S.state store.new).pending ≡ None }
+    ensures unchanged { OnErr result ((S.state store.new).files ≡ (S.state store.old).files) }
+    ensures told { ForSome (S.state store.old).files (λ files. Wrote name.now files (S.state store.new).files
+        (λ bytes. bytes ≡ file_text (drawn_secret_file set (plan.seed_word seed.now))) result) }
+    ensures cause { IfErr result (λ s. Caused (λ w. ⊥) (S.state store.old) (S.state store.new) s) }
+{
+    match set {
+        SetName::One16 | SetName::Toy16 => write_of_degree::<S, 16>(alloc, store, name, set, seed),
+        SetName::S4096 => write_of_degree::<S, 4096>(alloc, store, name, set, seed),
+        SetName::S8192 => write_of_degree::<S, 8192>(alloc, store, name, set, seed),
+        SetName::S16384 => write_of_degree::<S, 16384>(alloc, store, name, set, seed),
     }
 }
 
-/// The bytes of the secret that a seed draws.
-fn secret_bytes(alloc: Global, seed: &[u8; SEED_BYTES]) -> Result<Vec<u8>, AllocError>
-    ensures { IfOk result (λ bytes. bytes.items ≡ file_text (drawn_secret_file One16 (plan.seed_word seed.now))) }
+/// The same for a set of degree N.
+fn write_of_degree<S: Store, const N: usize>(
+    alloc: Global,
+    store: &mut S,
+    name: &str,
+    set: SetName,
+    seed: &[u8; SEED_BYTES],
+) -> Result<(), Status>
+    requires degree { N ≡ degree_of set }
+    requires idle { (S.state store.old).pending ≡ None }
+    ensures idle { (S.state store.new).pending ≡ None }
+    ensures unchanged { OnErr result ((S.state store.new).files ≡ (S.state store.old).files) }
+    ensures told { ForSome (S.state store.old).files (λ files. Wrote name.now files (S.state store.new).files
+        (λ bytes. bytes ≡ file_text (drawn_secret_file set (plan.seed_word seed.now))) result) }
+    ensures cause { IfErr result (λ s. Caused (λ w. ⊥) (S.state store.old) (S.state store.new) s) }
 {
-    let mut coefficients = [0; DEGREE];
-    let key_id = draw_secret(&mut ChaCha20Rng::from_seed(*seed), &mut coefficients);
-    let head = Head {
-        kind: FileKind::Secret,
-        parts: 0,
-        key_id,
-        bound: Bound { m: 0, e: 0 },
+    let Ok((head, secret)) = drawn::<N>(alloc, set, seed) else {
+        return Err(Status::Memory);
     };
-    file_bytes(alloc, &head, &coefficients, &[])
+    match write_secret(store, name, &head, &secret) {
+        Ok(()) => Ok(()),
+        Err(fault) => Err(write_status(fault)),
+    }
 }
 
-/// Draws a key id, and then the coefficients of a secret.
-fn draw_secret<const N: usize, R: Rng>(rng: &mut R, coefficients: &mut [u64; N]) -> [u8; 16]
-    requires { N ≤ 32768 }
-    ensures id { result ≡ drawn_key_id (stream_word (R.stream rng.old)) }
-    ensures words { coefficients.new ≡ values_below N (drawn_secret (stream_word (R.stream rng.old))) }
+/// The secret that a seed draws for a set, and the head of its file.
+fn drawn<const N: usize>(
+    alloc: Global,
+    set: SetName,
+    seed: &[u8; SEED_BYTES],
+) -> Result<(Head, Secret<N>), AllocError>
+    requires { N ≡ degree_of set }
+    ensures rules { IfOk result (λ made. HeadKeepsRules made.0) }
+    ensures kind { IfOk result (λ made. made.0.kind ≡ FileKind.Secret) }
+    ensures set { IfOk result (λ made. made.1.set ≡ made.0.set) }
+    ensures content { IfOk result (λ made. content_with made.0 (secret_words N made.1.small) ≡ drawn_secret_file set (plan.seed_word seed.now)) }
 {
-    let id = key_id(rng);
-    draw_ternary(rng, coefficients);
-    id
+    let ctx = Context::<N>::new(alloc, set)?;
+    let mut secret = Secret::new(alloc, &ctx)?;
+    let id = key_make::secret(&ctx, &mut secret, &mut ChaCha20Rng::from_seed(*seed));
+    let head = Head {
+        kind: FileKind::Secret,
+        set,
+        parts: 0,
+        element: 0,
+        id,
+        bound: Bound { m: 0, e: 0 },
+        words: N as u64,
+    };
+    Ok((head, secret))
 }

@@ -1,9 +1,8 @@
 -- The plain machine: what files stand for, and what a command does to that. Nothing of noise, residues or keys is in a plain state.
-use Rattle.std.specs.Prelude.{◌≡◌, ℕ, ◌<◌, ◌^◌, Bool, ◌&&◌, ◌==◌, if◌then◌else◌, ℤ, List, length, map, All, Option, Some, None, Result, Ok, Err, unwrap_or}
+use Rattle.std.specs.Prelude.{◌≡◌, ℕ, ◌<◌, ◌^◌, Bool, ◌&&◌, ◌==◌, if◌then◌else◌, ℤ, List, length, map, All, Option, Some, None, Result, Ok, Err, option_and_then, unwrap_or}
 use Rattle.std.specs.Str.{bytes_eq}
 use Rattle.outer_io.specs.Store.{Files, file}
 use Rattle.set_table.specs.declared.SetName.{SetName}
-use Rattle.set_table.specs.declared.SetName.TheVariants.{One16}
 use Rattle.set_table.specs.declared.KeyKind.{KeyKind}
 use Rattle.set_table.specs.declared.KeyKind.TheVariants.{Relin, Turn}
 use Rattle.set_table.specs.Sets.{number_of, degree_of, plain_of, data_of, special_of, key_of}
@@ -22,7 +21,7 @@ use Rattle.bfv_model.specs.Slots.{slots_of}
 use Rattle.script_text.specs.declared.faults.ValuePlace.{ValuePlace}
 use Rattle.script_text.specs.Reading.{values_of}
 use Rattle.script_text.specs.Values.{printed_values}
-use Rattle.command_words.specs.Form.{form_of}
+use Rattle.command_words.specs.Form.{form_of, set_named}
 use Rattle.command_words.specs.Line.{word_at}
 use Rattle.command_words.specs.declared.form.Form.{Form}
 use Rattle.command_words.specs.declared.form.Form.TheVariants as form
@@ -87,7 +86,7 @@ opened _ _ = None
 
 -- the item of the file OUT; a command without one makes none
 abbrev pub item_made : Form → List (List ℕ) → State → Option Item
-item_made form.Secret words state = drawn One16 (state (word_at words 2))
+item_made form.Secret words state = option_and_then (λ set. drawn set (state (word_at words 2))) (set_named (word_at words 1))
 item_made form.Public words state = published (state (word_at words 1))
 item_made form.Encrypt words state = sealed_under (state (word_at words 1)) (state (word_at words 3))
 item_made form.Decrypt words state = opened (state (word_at words 1)) (state (word_at words 2))

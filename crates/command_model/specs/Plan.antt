@@ -1,14 +1,11 @@
 -- What the words of a command and the files lead to: the first refusal, or the file OUT as far as it is determined.
 use Rattle.std.specs.Option.{option_map}
-use Rattle.std.specs.Prelude.{◌≡◌, ℕ, ◌<◌, nat_lt, Bool, not, ◌&&◌, ◌==◌, if◌then◌else◌, List, length, take, slice_index, slice_get, unwrap_or, All, Option, Some, None, is_none, Result, Ok, Err, IsOk}
+use Rattle.std.specs.Str.{bytes_eq}
+use Rattle.std.specs.Prelude.{◌≡◌, ℕ, ◌<◌, nat_lt, not, ◌&&◌, ◌==◌, if◌then◌else◌, List, length, take, slice_get, unwrap_or, All, Option, Some, None, is_none, Result, Ok, Err, IsOk}
 use Rattle.outer_io.specs.Store.{Files, file}
 use Rattle.set_table.specs.declared.SetName.{SetName}
-use Rattle.set_table.specs.declared.SetName.TheVariants.{One16}
-use Rattle.set_table.specs.Sets.{degree_of, plain_of, special_of}
-use Rattle.bfv_model.specs.declared.file_kind.FileKind.{FileKind}
-use Rattle.bfv_model.specs.declared.file_kind.FileKind.TheVariants.{Secret, PublicKey, Cipher}
+use Rattle.set_table.specs.Sets.{number_of, degree_of, plain_of, special_of}
 use Rattle.bfv_model.specs.FileText.{FileContent, file_text}
-use Rattle.bfv_model.specs.FileTests.{is_file_of, content_at}
 use Rattle.bfv_model.specs.Drawn.{stream_word, seed_stream, greatest_error}
 use Rattle.bfv_model.specs.DrawnFiles.{drawn_secret_file, drawn_public_file, drawn_cipher_file}
 use Rattle.bfv_model.specs.NoiseBounds.{fresh_bound}
@@ -25,25 +22,47 @@ use Rattle.script_text.specs.Values.{printed_values}
 use Rattle.noise_check.specs.declared.verdict.Verdict.{Verdict}
 use Rattle.noise_check.specs.declared.verdict.Verdict.TheVariants as verdict
 use Rattle.noise_check.specs.Verdicts.{fresh_bounds, verdict_of}
-use Rattle.command_words.specs.Form.{form_of, out_word}
+use Rattle.cipher_files.specs.Scan.{scanned}
+use Rattle.cipher_files.specs.declared.head.Wanted.{Wanted}
+use Rattle.cipher_files.specs.declared.head.Wanted.TheVariants.{Secret, Public, Cipher}
+use Rattle.cipher_files.specs.declared.faults.FileFault.{FileFault}
+use Rattle.cipher_files.specs.declared.faults.FileFault.TheVariants as fault
+use Rattle.cipher_files.specs.declared.faults.FileFault.TheVariants.{Missing, Failed, Kind}
+use Rattle.command_words.specs.Form.{form_of, out_word, set_named}
 use Rattle.command_words.specs.Line.{word_at, accepted_text}
 use Rattle.command_words.specs.declared.form.Form.{Form}
 use Rattle.command_words.specs.declared.form.Form.TheVariants as form
 use Rattle.command_words.specs.declared.status.Status.{Status}
-use Rattle.command_words.specs.declared.status.Status.TheVariants.{Usage, MissingFile, NotOurs, BadValues, BadScript, TooNoisy, NoSpecial, ShortSeed}
+use Rattle.command_words.specs.declared.status.Status.TheVariants.{Usage, Memory, ReadFault, MissingFile, NotOurs, Version, Damaged, WrongKind, SetMismatch, KeyMismatch, BadValues, BadScript, TooNoisy, NoSpecial, ShortSeed}
 
--- the bytes are a file of this kind that a command takes: of the smallest set, and no cipher of three parts
-abbrev pub is_taken : FileKind → List ℕ → Bool
-is_taken kind bytes = is_file_of kind One16 bytes && not (slice_index bytes 10 == 3)
+-- what is said of a file that is refused with a fault, the file being named by a word
+abbrev pub status_of : ℕ → FileFault → Status
+status_of word Missing = MissingFile word
+status_of word Failed = ReadFault word
+status_of word fault.Memory = Memory
+status_of word fault.NotOurs = NotOurs word
+status_of word (fault.Version have) = Version word have
+status_of word (Kind have) = WrongKind word have
+status_of word (fault.Damaged damage) = Damaged word damage
 
--- the content of the file of a word, or what is said of it: that it is missing, or isn't a file of this kind that a command takes
-abbrev pub taken : FileKind → ℕ → Option (List ℕ) → Result FileContent Status
-taken kind word None = Err (MissingFile word)
-taken kind word (Some bytes) = if is_taken kind bytes then Ok (content_at kind One16 bytes) else Err (NotOurs word)
+abbrev pub content_or_fault : ℕ → Result FileContent FileFault → Result FileContent Status
+content_or_fault word (Ok content) = Ok content
+content_or_fault word (Err fault) = Err (status_of word fault)
+
+-- the content of a file of a wanted kind, or what is said of the file: that it is missing, or the first test that it fails
+abbrev pub taken : Wanted → ℕ → Option (List ℕ) → Result FileContent Status
+taken wanted word None = Err (MissingFile word)
+taken wanted word (Some bytes) = content_or_fault word (scanned wanted bytes)
 
 -- the content of the file that a word names
-abbrev pub operand : List (List ℕ) → Files → FileKind → ℕ → Result FileContent Status
-operand words files kind word = taken kind word (file files (word_at words word))
+abbrev pub operand : List (List ℕ) → Files → Wanted → ℕ → Result FileContent Status
+operand words files wanted word = taken wanted word (file files (word_at words word))
+
+-- the file of a word belongs to the set and to the secret of another file; the sets are compared first
+abbrev pub matching : ℕ → FileContent → FileContent → Result FileContent Status
+matching word content other =
+    if not (number_of content.set == number_of other.set) then Err (SetMismatch word content.set other.set)
+    else (if not (bytes_eq content.key_id other.key_id) then Err (KeyMismatch word content.key_id other.key_id) else Ok content)
 
 -- a seed is the first 32 bytes of its file
 abbrev pub taken_seed : ℕ → Option (List ℕ) → Result (List ℕ) Status
@@ -99,9 +118,16 @@ pub data Output : Type 0 where
   -- the noise bound of what an accepted script puts out
   accepted : (bound : Bound) → Output
 
+-- the set that a word names; words that have a form name one where a set is wanted
+abbrev pub set_operand : Option SetName → Result SetName Status
+set_operand None = Err Usage
+set_operand (Some set) = Ok set
+
 -- `secret SET SEEDFILE OUT`
 abbrev pub plan_of_secret : List (List ℕ) → Files → Result Output Status
-plan_of_secret words files = and_then (seed_operand words files 2) (λ seed. Ok (file_with (drawn_secret_file One16 (seed_word seed))))
+plan_of_secret words files =
+    and_then (set_operand (set_named (word_at words 1))) (λ set. and_then (seed_operand words files 2) (λ seed.
+    Ok (file_with (drawn_secret_file set (seed_word seed)))))
 
 -- `public SEC SEEDFILE OUT`: the secret is read before the seed
 abbrev pub plan_of_public : List (List ℕ) → Files → Result Output Status
@@ -111,13 +137,14 @@ plan_of_public words files =
 -- `encrypt PUB SEEDFILE VALUES OUT`: the public key is read before the seed, and the seed before the values
 abbrev pub plan_of_encrypt : List (List ℕ) → Files → Result Output Status
 plan_of_encrypt words files =
-    and_then (operand words files PublicKey 1) (λ public. and_then (seed_operand words files 2) (λ seed.
+    and_then (operand words files Public 1) (λ public. and_then (seed_operand words files 2) (λ seed.
     and_then (values_operand public.set words files 3) (λ listed. Ok (sealing public listed seed))))
 
--- `decrypt SEC CIPHER OUT`: the secret is read before the cipher
+-- `decrypt SEC CIPHER OUT`: the secret is read before the cipher, and then they are compared
 abbrev pub plan_of_decrypt : List (List ℕ) → Files → Result Output Status
 plan_of_decrypt words files =
-    and_then (operand words files Secret 1) (λ secret. and_then (operand words files Cipher 2) (λ cipher. Ok (values secret cipher)))
+    and_then (operand words files Secret 1) (λ secret. and_then (operand words files Cipher 2) (λ cipher.
+    and_then (matching 2 cipher secret) (λ matched. Ok (values secret matched))))
 
 -- the bound of a register among those of all
 abbrev pub bound_at : List Bound → ℕ → Bound
@@ -155,7 +182,7 @@ abbrev pub IsReached : Option Form → List (List ℕ) → Files → ℕ → Typ
 IsReached None words files word = ⊥
 IsReached (Some form.Secret) words files word = Unit {0}
 IsReached (Some form.Public) words files word = 1 < word → IsOk (operand words files Secret 1)
-IsReached (Some form.Encrypt) words files word = (1 < word → IsOk (operand words files PublicKey 1)) × (2 < word → IsOk (seed_operand words files 2))
+IsReached (Some form.Encrypt) words files word = (1 < word → IsOk (operand words files Public 1)) × (2 < word → IsOk (seed_operand words files 2))
 IsReached (Some form.Decrypt) words files word = 1 < word → IsOk (operand words files Secret 1)
 IsReached (Some form.Check) words files word = Unit {0}
 

@@ -1,7 +1,10 @@
 -- The forms of a command's words.
-use Rattle.std.specs.Prelude.{◌≡◌, ◌⊎◌, ℕ, Bool, List, [], ◌∷◌, Option, Some, None, length, ◌==◌, codes, if◌then◌else◌}
+use Rattle.std.specs.Prelude.{◌≡◌, ◌⊎◌, ℕ, Bool, List, [], ◌∷◌, Option, Some, None, is_some, length, ◌==◌, codes, find, if◌then◌else◌}
 use Rattle.std.specs.Str.{bytes_eq}
 use Rattle.std.specs.List.{list_any}
+use Rattle.set_table.specs.declared.SetName.{SetName}
+use Rattle.set_table.specs.declared.SetName.TheVariants.{One16, Toy16, S4096, S8192, S16384}
+use Rattle.set_table.specs.Sets.{name_of}
 use Rattle.command_words.specs.declared.form.Form.{Form}
 use Rattle.command_words.specs.declared.form.Form.TheVariants.{Secret, Public, Encrypt, Decrypt, Check}
 
@@ -13,10 +16,14 @@ has_empty_word words = list_any (λ word. length word == 0) words
 abbrev pub form_of_one : List ℕ → Option Form
 form_of_one command = if bytes_eq command (codes "check") then Some Check else None
 
--- the form of three words behind a command's name. A secret is made for the smallest set alone.
-abbrev pub form_of_three : List ℕ → List ℕ → Option Form
+-- the set of this name, if there is one
+unfoldable pub set_named : List ℕ → Option SetName
+set_named name = find (λ set. bytes_eq name (name_of set)) (One16 ∷ Toy16 ∷ S4096 ∷ S8192 ∷ S16384 ∷ [])
+
+-- the form of three words behind a command's name. A secret is made for a set that is named.
+unfoldable pub form_of_three : List ℕ → List ℕ → Option Form
 form_of_three command first =
-    if bytes_eq command (codes "secret") then (if bytes_eq first (codes "one16") then Some Secret else None)
+    if bytes_eq command (codes "secret") then (if is_some (set_named first) then Some Secret else None)
     else (if bytes_eq command (codes "public") then Some Public
     else (if bytes_eq command (codes "decrypt") then Some Decrypt else None))
 

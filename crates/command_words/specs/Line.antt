@@ -1,21 +1,26 @@
 -- The lines that are printed.
 use Rattle.std.specs.Prelude.{ℕ, List, [], ◌++◌, Option, Some, None, codes, unwrap_or, slice_get}
 use Rattle.bound_num.specs.declared.Bound.{Bound}
-use Rattle.command_words.specs.Status.{Parts, parts_of, text_and_bound}
+use Rattle.command_words.specs.Status.{Parts, parts_of, text_and_number, text_and_bound}
 use Rattle.command_words.specs.declared.status.Status.{Status}
 
 -- the word of this number
 abbrev pub word_at : List (List ℕ) → ℕ → List ℕ
 word_at words word = unwrap_or (slice_get words word) []
 
+-- a text, and behind it a number, if there is one
+abbrev pub numbered : List ℕ → Option ℕ → List ℕ
+numbered text None = text
+numbered text (Some number) = text_and_number (text ++ codes " ") number
+
 -- a text, and behind a colon the word of this number, if there is one
 abbrev pub text_about : List (List ℕ) → List ℕ → Option ℕ → List ℕ
 text_about words text None = text
 text_about words text (Some word) = text ++ (codes ": " ++ word_at words word)
 
--- what a status is called, the word that it is about, what else is to be said, and a line feed
+-- what a status is called with its number, the word that it is about, what else is to be said, and a line feed
 abbrev pub line_of_parts : List (List ℕ) → Parts → List ℕ
-line_of_parts words parts = text_about words parts.text parts.word ++ (parts.detail ++ codes "\n")
+line_of_parts words parts = text_about words (numbered parts.text parts.number) parts.word ++ (parts.detail ++ codes "\n")
 
 -- the line of a status other than Done, which prints nothing
 abbrev pub line : List (List ℕ) → Status → List ℕ

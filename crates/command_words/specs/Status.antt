@@ -1,20 +1,24 @@
 -- What a status says: its number and its texts.
 use Rattle.std.specs.Prelude.{ℕ, List, [], ◌++◌, Option, Some, None, codes, decimal}
+use Rattle.hex.specs.Hex.{encode_lower}
 use Rattle.bound_num.specs.declared.Bound.{Bound}
 use Rattle.set_table.specs.Sets.{name_of}
+use Rattle.outer_io.specs.declared.faults.Damage.{Damage}
+use Rattle.outer_io.specs.declared.faults.Damage.TheVariants.{Field, Length, Digest, NotReduced, Changed}
 use Rattle.script_text.specs.declared.faults.ScriptPlace.{ScriptPlace}
 use Rattle.script_text.specs.declared.faults.ScriptPlace.TheVariants.{Syntax, Name, Shape}
 use Rattle.script_text.specs.declared.faults.ScriptPlace.TheVariants as script
 use Rattle.script_text.specs.declared.faults.ValuePlace.{ValuePlace}
 use Rattle.script_text.specs.declared.faults.ValuePlace.TheVariants.{BadText, TooLarge, TooMany, TooLong}
 use Rattle.command_words.specs.declared.status.Status.{Status}
-use Rattle.command_words.specs.declared.status.Status.TheVariants.{Done, Usage, Memory, ReadFault, WriteFault, MissingFile, NotOurs, BadValues, BadScript, TooNoisy, NoSpecial, ShortSeed}
+use Rattle.command_words.specs.declared.status.Status.TheVariants.{Done, Usage, Memory, ReadFault, WriteFault, MissingFile, NotOurs, Version, Damaged, WrongKind, SetMismatch, KeyMismatch, BadValues, BadScript, TooNoisy, NoSpecial, ShortSeed}
 
--- the parts of a status: the exit status of the program, what it is called, the number of the word that it keeps, and what
--- else is to be said
+-- the parts of a status: the exit status of the program, what it is called, a number that belongs to that, the number of the
+-- word that it keeps, and what else is to be said
 pub record Parts : Type 0 where
   pub code : ℕ
   pub text : List ℕ
+  pub number : Option ℕ
   pub word : Option ℕ
   pub detail : List ℕ
 
@@ -45,17 +49,46 @@ abbrev pub excess_text : ℕ → Bound → Bound → List ℕ
 excess_text line bound limit =
     text_and_number (codes ": line ") line ++ (text_and_bound (codes " bound ") bound ++ text_and_bound (codes " limit ") limit)
 
+-- what is wrong with the bytes of a file
+abbrev pub damage_text : Damage → List ℕ
+damage_text (Field at) = text_and_number (codes " field ") at
+damage_text (Length have want) = text_and_number (codes " length ") have ++ text_and_number (codes " of ") want
+damage_text Digest = codes " digest"
+damage_text (NotReduced place) = text_and_number (codes " word ") place
+damage_text Changed = codes " changed"
+
+-- what a file has, and what was wanted
+abbrev pub mismatch_text : List ℕ → List ℕ → List ℕ
+mismatch_text have want = codes " has " ++ have ++ codes ", wanted " ++ want
+
 -- the table of statuses
 abbrev pub parts_of : Status → Parts
-parts_of Done = record { code = 0; text = codes "done"; word = None; detail = [] }
-parts_of Usage = record { code = 2; text = codes "usage"; word = None; detail = [] }
-parts_of Memory = record { code = 3; text = codes "memory"; word = None; detail = [] }
-parts_of (ReadFault word) = record { code = 4; text = codes "read fault"; word = Some word; detail = [] }
-parts_of WriteFault = record { code = 5; text = codes "write fault"; word = None; detail = [] }
-parts_of (MissingFile word) = record { code = 6; text = codes "missing file"; word = Some word; detail = [] }
-parts_of (NotOurs word) = record { code = 7; text = codes "not ours"; word = Some word; detail = [] }
-parts_of (BadValues word fault) = record { code = 13; text = codes "bad values"; word = Some word; detail = place_text fault }
-parts_of (BadScript fault) = record { code = 14; text = codes "bad script"; word = None; detail = script_place_text fault }
-parts_of (TooNoisy line bound limit) = record { code = 15; text = codes "too noisy"; word = None; detail = excess_text line bound limit }
-parts_of (NoSpecial set) = record { code = 18; text = codes "no special modulus"; word = None; detail = codes ": " ++ name_of set }
-parts_of (ShortSeed word have) = record { code = 19; text = codes "short seed"; word = Some word; detail = text_and_number (codes " ") have }
+parts_of Done = record { code = 0; text = codes "done"; number = None; word = None; detail = [] }
+parts_of Usage = record { code = 2; text = codes "usage"; number = None; word = None; detail = [] }
+parts_of Memory = record { code = 3; text = codes "memory"; number = None; word = None; detail = [] }
+parts_of (ReadFault word) = record { code = 4; text = codes "read fault"; number = None; word = Some word; detail = [] }
+parts_of WriteFault = record { code = 5; text = codes "write fault"; number = None; word = None; detail = [] }
+parts_of (MissingFile word) = record { code = 6; text = codes "missing file"; number = None; word = Some word; detail = [] }
+parts_of (NotOurs word) = record { code = 7; text = codes "not ours"; number = None; word = Some word; detail = [] }
+parts_of (Version word have) = record { code = 8; text = codes "version"; number = Some have; word = Some word; detail = [] }
+parts_of (Damaged word fault) = record { code = 9; text = codes "damaged"; number = None; word = Some word; detail = damage_text fault }
+parts_of (WrongKind word have) = record { code = 10; text = codes "wrong kind"; number = Some have; word = Some word; detail = [] }
+parts_of (SetMismatch word have want) = record {
+  code = 11;
+  text = codes "set mismatch";
+  number = None;
+  word = Some word;
+  detail = mismatch_text (name_of have) (name_of want);
+}
+parts_of (KeyMismatch word have want) = record {
+  code = 12;
+  text = codes "key mismatch";
+  number = None;
+  word = Some word;
+  detail = mismatch_text (encode_lower have) (encode_lower want);
+}
+parts_of (BadValues word fault) = record { code = 13; text = codes "bad values"; number = None; word = Some word; detail = place_text fault }
+parts_of (BadScript fault) = record { code = 14; text = codes "bad script"; number = None; word = None; detail = script_place_text fault }
+parts_of (TooNoisy line bound limit) = record { code = 15; text = codes "too noisy"; number = None; word = None; detail = excess_text line bound limit }
+parts_of (NoSpecial set) = record { code = 18; text = codes "no special modulus"; number = None; word = None; detail = codes ": " ++ name_of set }
+parts_of (ShortSeed word have) = record { code = 19; text = codes "short seed"; number = None; word = Some word; detail = text_and_number (codes " ") have }

@@ -1,9 +1,10 @@
 // The forms of a command's words.
-ghost use Rattle.std.specs.Prelude.{◌≡◌, ◌==◌, map, IfSome, length, codes, if◌then◌else◌};
-ghost use Rattle.std.specs.Str.{bytes_eq};
+ghost use Rattle.std.specs.Prelude.{◌≡◌, ◌==◌, map, IfSome, is_some, length, if◌then◌else◌};
 ghost use Rattle.std.specs.List.{list_any};
 ghost use Rattle.std.specs.String.{string_bytes};
 ghost use Rattle.command_words.specs.Form as form;
+
+use set_table::SetName;
 
 /// What the words of a command line ask for. Words are counted from 0, the command's name.
 #[derive(Clone, Copy, Debug, PartialEq, Eq)]
@@ -61,6 +62,7 @@ fn form_of_one(command: &str) -> Option<Form>
     }
 }
 
+#[tactic(auto, unfolding(crate::specs::Form::form_of_three))]
 fn form_of_three(command: &str, first: &str) -> Option<Form>
     ensures form { result ≡ form.form_of_three command.now first.now }
     ensures count { IfSome result (λ f. form.word_count f ≡ 4) }
@@ -78,13 +80,16 @@ fn form_of_three(command: &str, first: &str) -> Option<Form>
 }
 
 fn form_of_secret(set: &str) -> Option<Form>
-    ensures { result ≡ (if bytes_eq set.now (codes "one16") then Some Form.Secret else None) }
+    ensures { result ≡ (if is_some (form.set_named set.now) then Some Form.Secret else None) }
 {
-    if set == "one16" {
-        Some(Form::Secret)
-    } else {
-        None
-    }
+    set_named(set).map(|_| Form::Secret)
+}
+
+/// The set of this name, if there is one.
+pub fn set_named(name: &str) -> Option<SetName>
+    ensures { result ≡ form.set_named name.now }
+{
+    SetName::from_text(name)
 }
 
 fn form_of_four(command: &str) -> Option<Form>

@@ -1,15 +1,16 @@
 // The line that a status prints.
-ghost use Rattle.std.specs.Prelude.{◌≡◌, ◌≢◌, ◌<◌, ◌++◌, map, length, codes, IfOk, OnOk};
+ghost use Rattle.std.specs.Prelude.{◌≡◌, ◌≢◌, ◌<◌, [], ◌++◌, map, length, codes, IfOk, OnOk};
 ghost use Rattle.std.specs.Option.{ForSome};
 ghost use Rattle.std.specs.String.{string_bytes};
 ghost use Rattle.outer_io.specs.Sink.{Puts};
-ghost use Rattle.command_words.specs.Status.{parts_of, place_text, script_place_text, text_and_number, text_and_bound, excess_text};
-ghost use Rattle.command_words.specs.Line.{line, text_about, accepted_text};
+ghost use Rattle.hex.specs.Hex.{encode_lower};
+ghost use Rattle.command_words.specs.Status.{parts_of, damage_text, mismatch_text, place_text, script_place_text, text_and_number, text_and_bound, excess_text};
+ghost use Rattle.command_words.specs.Line.{line, numbered, text_about, accepted_text};
 
 use crate::Status;
 use bound_num::Bound;
 use itoa::Buffer;
-use outer_io::{Sink, SinkFault, put_three, put_two};
+use outer_io::{Damage, Sink, SinkFault, put_four, put_three, put_two};
 use script_text::{ScriptPlace, ValuePlace};
 use std::alloc::{AllocError, Global};
 
@@ -30,12 +31,34 @@ pub fn put_line<O: Sink>(out: &mut O, words: &[String], status: Status) -> Resul
 fn put_text<O: Sink>(out: &mut O, words: &[String], status: Status) -> Result<(), SinkFault>
     requires { ForSome (parts_of status).word (λ word. word < length words.now) }
     ensures { Puts (O.state out.old) (O.state out.new)
-        (text_about (map string_bytes words.now) (parts_of status).text (parts_of status).word) result }
+        (text_about (map string_bytes words.now) (numbered (parts_of status).text (parts_of status).number) (parts_of status).word) result }
+{
+    match put_call(out, status) {
+        Ok(()) => put_word(out, words, status.word()),
+        Err(fault) => Err(fault),
+    }
+}
+
+/// Puts what the status is called, with its number.
+fn put_call<O: Sink>(out: &mut O, status: Status) -> Result<(), SinkFault>
+    ensures { Puts (O.state out.old) (O.state out.new) (numbered (parts_of status).text (parts_of status).number) result }
 {
     let text = status.text().as_bytes();
-    match status.word() {
-        Some(word) => put_three(out, text, b": ", words[word as usize].as_bytes()),
+    let mut buffer = Buffer::new();
+    match status.number() {
+        Some(number) => put_three(out, text, b" ", buffer.format(number).as_bytes()),
         None => out.put(text),
+    }
+}
+
+/// Puts the word of this number, if there is one, behind a colon.
+fn put_word<O: Sink>(out: &mut O, words: &[String], word: Option<u32>) -> Result<(), SinkFault>
+    requires { ForSome word (λ w. w < length words.now) }
+    ensures { Puts (O.state out.old) (O.state out.new) (text_about (map string_bytes words.now) [] word) result }
+{
+    match word {
+        Some(word) => put_two(out, b": ", words[word as usize].as_bytes()),
+        None => out.put(b""),
     }
 }
 
@@ -53,6 +76,9 @@ fn put_detail<O: Sink>(out: &mut O, status: Status) -> Result<(), SinkFault>
     ensures { Puts (O.state out.old) (O.state out.new) (parts_of status).detail result }
 {
     match status {
+        Status::Damaged { fault, .. } => put_damage(out, fault),
+        Status::SetMismatch { have, want, .. } => put_mismatch(out, have.text(), want.text()),
+        Status::KeyMismatch { have, want, .. } => put_ids(out, &have, &want),
         Status::BadValues { fault, .. } => put_place(out, fault),
         Status::BadScript { fault } => put_script_place(out, fault),
         Status::TooNoisy { line, bound, limit } => put_excess(out, line, bound, limit),
@@ -60,6 +86,61 @@ fn put_detail<O: Sink>(out: &mut O, status: Status) -> Result<(), SinkFault>
         Status::ShortSeed { have, .. } => put_number(out, " ", have as u64),
         _ => out.put(b""),
     }
+}
+
+fn put_damage<O: Sink>(out: &mut O, damage: Damage) -> Result<(), SinkFault>
+    ensures { Puts (O.state out.old) (O.state out.new) (damage_text damage) result }
+{
+    match damage {
+        Damage::Field(at) => put_number(out, " field ", at as u64),
+        Damage::Length { have, want } => put_lengths(out, have, want),
+        Damage::Digest => out.put(b" digest"),
+        Damage::NotReduced(place) => put_number(out, " word ", place),
+        Damage::Changed => out.put(b" changed"),
+    }
+}
+
+fn put_lengths<O: Sink>(out: &mut O, have: u64, want: u64) -> Result<(), SinkFault>
+    ensures { Puts (O.state out.old) (O.state out.new) (text_and_number (codes " length ") have ++ text_and_number (codes " of ") want) result }
+{
+    match put_number(out, " length ", have) {
+        Ok(()) => put_number(out, " of ", want),
+        Err(fault) => Err(fault),
+    }
+}
+
+/// Puts what a file has, and what was wanted.
+fn put_mismatch<O: Sink>(out: &mut O, have: &str, want: &str) -> Result<(), SinkFault>
+    ensures { Puts (O.state out.old) (O.state out.new) (mismatch_text have.now want.now) result }
+{
+    put_four(
+        out,
+        b" has ",
+        have.as_bytes(),
+        b", wanted ",
+        want.as_bytes(),
+    )
+}
+
+/// Puts two key ids in hexadecimal digits.
+fn put_ids<O: Sink>(out: &mut O, have: &[u8; 16], want: &[u8; 16]) -> Result<(), SinkFault>
+    ensures { Puts (O.state out.old) (O.state out.new) (mismatch_text (encode_lower have.now) (encode_lower want.now)) result }
+{
+    put_four(
+        out,
+        b" has ",
+        &hex_digits(have),
+        b", wanted ",
+        &hex_digits(want),
+    )
+}
+
+fn hex_digits(id: &[u8; 16]) -> [u8; 32]
+    ensures { result ≡ encode_lower id.now }
+{
+    let mut digits = [0; 32];
+    let _ = hex::encode_to_slice(*id, &mut digits);
+    digits
 }
 
 fn put_place<O: Sink>(out: &mut O, place: ValuePlace) -> Result<(), SinkFault>

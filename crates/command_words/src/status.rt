@@ -3,6 +3,7 @@ ghost use Rattle.std.specs.Prelude.{◌≡◌};
 ghost use Rattle.command_words.specs.Status.{parts_of};
 
 use bound_num::Bound;
+use outer_io::Damage;
 use script_text::{ScriptPlace, ValuePlace};
 use set_table::SetName;
 
@@ -23,9 +24,36 @@ pub enum Status {
     MissingFile {
         word: u32,
     },
-    /// A file isn't the text of a key or a ciphertext that this command takes.
+    /// A file doesn't begin as the files of the scheme do.
     NotOurs {
         word: u32,
+    },
+    /// A file is of the version `have`, which isn't 1.
+    Version {
+        word: u32,
+        have: u8,
+    },
+    /// A field, the length, the digest or a word of a file is out of form.
+    Damaged {
+        word: u32,
+        fault: Damage,
+    },
+    /// A file is of the kind of the number `have`, which isn't the wanted one.
+    WrongKind {
+        word: u32,
+        have: u8,
+    },
+    /// A file is of another set than the one before it.
+    SetMismatch {
+        word: u32,
+        have: SetName,
+        want: SetName,
+    },
+    /// A file belongs to another secret than the one before it.
+    KeyMismatch {
+        word: u32,
+        have: [u8; 16],
+        want: [u8; 16],
     },
     /// A text of values is wrong.
     BadValues {
@@ -66,6 +94,11 @@ impl Status {
             Status::WriteFault => 5,
             Status::MissingFile { .. } => 6,
             Status::NotOurs { .. } => 7,
+            Status::Version { .. } => 8,
+            Status::Damaged { .. } => 9,
+            Status::WrongKind { .. } => 10,
+            Status::SetMismatch { .. } => 11,
+            Status::KeyMismatch { .. } => 12,
             Status::BadValues { .. } => 13,
             Status::BadScript { .. } => 14,
             Status::TooNoisy { .. } => 15,
@@ -86,11 +119,26 @@ impl Status {
             Status::WriteFault => "write fault",
             Status::MissingFile { .. } => "missing file",
             Status::NotOurs { .. } => "not ours",
+            Status::Version { .. } => "version",
+            Status::Damaged { .. } => "damaged",
+            Status::WrongKind { .. } => "wrong kind",
+            Status::SetMismatch { .. } => "set mismatch",
+            Status::KeyMismatch { .. } => "key mismatch",
             Status::BadValues { .. } => "bad values",
             Status::BadScript { .. } => "bad script",
             Status::TooNoisy { .. } => "too noisy",
             Status::NoSpecial { .. } => "no special modulus",
             Status::ShortSeed { .. } => "short seed",
+        }
+    }
+
+    /// A number that belongs to what the status is called.
+    pub(crate) fn number(&self) -> Option<u8>
+        ensures { result ≡ (parts_of self.now).number }
+    {
+        match *self {
+            Status::Version { have, .. } | Status::WrongKind { have, .. } => Some(have),
+            _ => None,
         }
     }
 
@@ -102,6 +150,11 @@ impl Status {
             Status::ReadFault { word }
             | Status::MissingFile { word }
             | Status::NotOurs { word }
+            | Status::Version { word, .. }
+            | Status::Damaged { word, .. }
+            | Status::WrongKind { word, .. }
+            | Status::SetMismatch { word, .. }
+            | Status::KeyMismatch { word, .. }
             | Status::BadValues { word, .. }
             | Status::ShortSeed { word, .. } => Some(word),
             Status::Done

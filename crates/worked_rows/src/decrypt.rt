@@ -1,73 +1,17 @@
-// `decrypt` on files of the smallest set.
+// `decrypt` on files of the two smallest sets.
+use crate::files::{
+    CIPHER_HEAD, FIRST_MODULUS, FIRST_RESIDUES, FIRST_WORD, SECRET_HEAD, SECRET_WORDS, cipher_file,
+    file_of, front_of, long_toy_cipher_file, secret_file, toy_cipher_file, toy_secret_file,
+    toy_secret_head, with_byte, with_other_end,
+};
 use crate::words::words_of;
 use bfv_commands::command;
 use command_words::Status;
 use outer_io::{MemSink, MemStore};
-use sha2::{Digest, Sha256};
 use std::alloc::{AllocError, Global};
 use std::test::Fail;
 
-/// The head of the cipher: version 1, kind 5, set 0, two parts, a key id of ones, the bound 257
-/// and 32 words.
-const CIPHER_HEAD: [u8; 64] = [
-    66, 70, 86, 82, 78, 83, 70, 1, 5, 0, 2, 0, 0, 0, 0, 0, 17, 17, 17, 17, 17, 17, 17, 17, 17, 17,
-    17, 17, 17, 17, 17, 17, 1, 1, 0, 0, 0, 0, 0, 0, 32, 0, 0, 0, 0, 0, 0, 0, 0, 0, 0, 0, 0, 0, 0,
-    0, 0, 0, 0, 0, 0, 0, 0, 0,
-];
-
-/// The head of the secret: kind 1, and 16 words.
-const SECRET_HEAD: [u8; 64] = [
-    66, 70, 86, 82, 78, 83, 70, 1, 1, 0, 0, 0, 0, 0, 0, 0, 17, 17, 17, 17, 17, 17, 17, 17, 17, 17,
-    17, 17, 17, 17, 17, 17, 0, 0, 0, 0, 0, 0, 0, 0, 16, 0, 0, 0, 0, 0, 0, 0, 0, 0, 0, 0, 0, 0, 0,
-    0, 0, 0, 0, 0, 0, 0, 0, 0,
-];
-
-/// 257 times this word is 5 times the modulus less 16: it is a cipher of 5 in every slot, with
-/// noise 16.
-const FIRST_WORD: u64 = 700_949_358_316_277;
-
-const SECRET_WORDS: [u64; 16] = [0, 1, 2, 1, 0, 0, 2, 2, 1, 0, 1, 2, 0, 1, 1, 0];
-
 const FIVES: &str = "5 5 5 5 5 5 5 5\n5 5 5 5 5 5 5 5\n";
-
-/// A file with this head and these words, and their digest.
-fn file_of(alloc: Global, head: &[u8], words: &[u64]) -> Result<Vec<u8>, AllocError> {
-    let mut bytes = head.to_vec(alloc)?;
-    for word in words {
-        bytes.extend_from_slice(&word.to_le_bytes())?;
-    }
-    let digest = Sha256::digest(bytes.as_slice());
-    bytes.extend_from_slice(&digest)?;
-    Ok(bytes)
-}
-
-fn secret_file(alloc: Global) -> Result<Vec<u8>, AllocError> {
-    file_of(alloc, &SECRET_HEAD, &SECRET_WORDS)
-}
-
-fn cipher_file(alloc: Global) -> Result<Vec<u8>, AllocError> {
-    let mut words = [0; 32];
-    words[0] = FIRST_WORD;
-    file_of(alloc, &CIPHER_HEAD, &words)
-}
-
-/// A head with one byte changed.
-fn with_byte(head: [u8; 64], at: usize, byte: u8) -> [u8; 64] {
-    let mut changed = head;
-    if let Some(place) = changed.get_mut(at) {
-        *place = byte;
-    }
-    changed
-}
-
-/// The first bytes of a file.
-fn front_of(alloc: Global, bytes: &[u8], length: usize) -> Result<Vec<u8>, AllocError> {
-    let mut front = Vec::new(alloc);
-    for byte in bytes.iter().take(length) {
-        front.push(*byte)?;
-    }
-    Ok(front)
-}
 
 /// The number of a call that no command here comes to.
 const NEVER: u64 = 1000;
@@ -116,13 +60,23 @@ fn outcome_of(
 const DECRYPT: [&str; 4] = ["decrypt", "sec", "c", "out"];
 
 #[test]
-fn a_cipher_of_fives_decrypts(rt: HostRuntime) -> Result<(), Fail> {
+fn ciphers_of_fives_decrypt(rt: HostRuntime) -> Result<(), Fail> {
     let alloc = rt.alloc();
     let (secret, cipher) = (secret_file(alloc)?, cipher_file(alloc)?);
-    let o = outcome_of(alloc, &DECRYPT, &secret, &cipher, NEVER, NEVER)?;
-    assert_eq!(rt; o.status, Status::Done);
-    assert_eq!(rt; o.written.as_slice(), FIVES.as_bytes());
-    assert_eq!(rt; o.printed.len(), 0);
+    let toy_secret = toy_secret_file(alloc)?;
+    let toy_cipher = toy_cipher_file(alloc, FIRST_RESIDUES[0])?;
+    let long_cipher = long_toy_cipher_file(alloc)?;
+    let rows: [(&[u8], &[u8]); 3] = [
+        (&secret, &cipher),
+        (&toy_secret, &toy_cipher),
+        (&toy_secret, &long_cipher),
+    ];
+    for (secret, cipher) in rows {
+        let o = outcome_of(alloc, &DECRYPT, secret, cipher, NEVER, NEVER)?;
+        assert_eq!(rt; o.status, Status::Done);
+        assert_eq!(rt; o.written.as_slice(), FIVES.as_bytes());
+        assert_eq!(rt; o.printed.len(), 0);
+    }
     Ok(())
 }
 
@@ -130,15 +84,16 @@ fn a_cipher_of_fives_decrypts(rt: HostRuntime) -> Result<(), Fail> {
 fn refusals_are_named(rt: HostRuntime) -> Result<(), Fail> {
     let alloc = rt.alloc();
     let (secret, cipher) = (secret_file(alloc)?, cipher_file(alloc)?);
-    let rows: [(&[&str], u8, &str); 8] = [
+    let rows: [(&[&str], u8, &str); 9] = [
         (&[], 2, "usage\n"),
         (&["decrypt", "sec", "c"], 2, "usage\n"),
         (&["decrypt", "sec", "", "out"], 2, "usage\n"),
         (&["seal", "sec", "c", "out"], 2, "usage\n"),
         (&["decrypt", "sec", "d", "out"], 6, "missing file: d\n"),
         (&["decrypt", "s", "d", "out"], 6, "missing file: s\n"),
-        (&["decrypt", "c", "c", "out"], 7, "not ours: c\n"),
-        (&["decrypt", "sec", "sec", "out"], 7, "not ours: sec\n"),
+        (&["decrypt", "c", "d", "out"], 10, "wrong kind 5: c\n"),
+        (&["decrypt", "sec", "sec", "out"], 10, "wrong kind 1: sec\n"),
+        (&["decrypt", "out", "c", "out"], 7, "not ours: out\n"),
     ];
     for (texts, code, line) in rows {
         let o = outcome_of(alloc, texts, &secret, &cipher, NEVER, NEVER)?;
@@ -150,21 +105,111 @@ fn refusals_are_named(rt: HostRuntime) -> Result<(), Fail> {
 }
 
 #[test]
+fn damage_is_named(rt: HostRuntime) -> Result<(), Fail> {
+    let alloc = rt.alloc();
+    let secret = toy_secret_file(alloc)?;
+    let whole = toy_cipher_file(alloc, FIRST_RESIDUES[0])?;
+    let short = front_of(alloc, &whole, 607)?;
+    let name = front_of(alloc, &whole, 7)?;
+    let half_a_head = front_of(alloc, &whole, 63)?;
+    let head = front_of(alloc, &whole, 64)?;
+    let mut long = whole.clone()?;
+    long.push(0)?;
+    let other_end = with_other_end(whole.clone()?);
+    let unreduced = toy_cipher_file(alloc, FIRST_MODULUS)?;
+    let unreduced_other_end = with_other_end(unreduced.clone()?);
+    let rows: [(&[u8], u8, &str); 10] = [
+        (b"", 7, "not ours: c\n"),
+        (b"BFVRNS", 7, "not ours: c\n"),
+        (&name, 9, "damaged: c length 7 of 64\n"),
+        (&half_a_head, 9, "damaged: c length 63 of 64\n"),
+        (&head, 9, "damaged: c length 64 of 608\n"),
+        (&short, 9, "damaged: c length 607 of 608\n"),
+        (&long, 9, "damaged: c length 609 of 608\n"),
+        (&other_end, 9, "damaged: c digest\n"),
+        (&unreduced, 9, "damaged: c word 0\n"),
+        (&unreduced_other_end, 9, "damaged: c digest\n"),
+    ];
+    for (cipher, code, line) in rows {
+        let o = outcome_of(alloc, &DECRYPT, &secret, cipher, NEVER, NEVER)?;
+        assert_eq!(rt; o.status.code(), code, "{line}");
+        assert_eq!(rt; o.printed.as_slice(), line.as_bytes());
+        assert_eq!(rt; o.written.as_slice(), OLD.as_slice());
+    }
+    Ok(())
+}
+
+#[test]
+fn words_of_a_secret_are_below_three(rt: HostRuntime) -> Result<(), Fail> {
+    let alloc = rt.alloc();
+    let mut words = SECRET_WORDS;
+    words[15] = 3;
+    let secret = file_of(alloc, &SECRET_HEAD, &words)?;
+    let o = outcome_of(alloc, &DECRYPT, &secret, &secret, NEVER, NEVER)?;
+    assert_eq!(rt; o.status.code(), 9);
+    assert_eq!(rt; o.printed.as_slice(), b"damaged: sec word 15\n".as_slice());
+    Ok(())
+}
+
+#[test]
+fn files_that_do_not_match_are_named(rt: HostRuntime) -> Result<(), Fail> {
+    let alloc = rt.alloc();
+    let secret = secret_file(alloc)?;
+    let toy_secret = toy_secret_file(alloc)?;
+    let other = file_of(alloc, &with_byte(toy_secret_head(), 31, 171), &SECRET_WORDS)?;
+    let cipher = toy_cipher_file(alloc, FIRST_RESIDUES[0])?;
+    let broken = with_other_end(cipher.clone()?);
+    let rows: [(&[u8], &[u8], u8, &str); 4] = [
+        (
+            &secret,
+            &cipher,
+            11,
+            "set mismatch: c has toy16, wanted one16\n",
+        ),
+        (
+            &other,
+            &cipher,
+            12,
+            "key mismatch: c has 11111111111111111111111111111111, wanted 111111111111111111111111111111ab\n",
+        ),
+        (&secret, &broken, 9, "damaged: c digest\n"),
+        (&other, &broken, 9, "damaged: c digest\n"),
+    ];
+    for (secret, cipher, code, line) in rows {
+        let o = outcome_of(alloc, &DECRYPT, secret, cipher, NEVER, NEVER)?;
+        assert_eq!(rt; o.status.code(), code, "{line}");
+        assert_eq!(rt; o.printed.as_slice(), line.as_bytes());
+        assert_eq!(rt; o.written.as_slice(), OLD.as_slice());
+    }
+    Ok(())
+}
+
+#[test]
 fn a_failed_call_is_a_fault(rt: HostRuntime) -> Result<(), Fail> {
     let alloc = rt.alloc();
     let (secret, cipher) = (secret_file(alloc)?, cipher_file(alloc)?);
-    // Each file is asked for its size and read, and then the file OUT is begun, written and put in its place.
-    let rows = [
-        (0, Status::ReadFault { word: 1 }),
-        (1, Status::ReadFault { word: 1 }),
-        (2, Status::ReadFault { word: 2 }),
-        (3, Status::ReadFault { word: 2 }),
-        (4, Status::WriteFault),
-        (5, Status::WriteFault),
-        (6, Status::WriteFault),
+    let of_secret = Status::ReadFault { word: 1 };
+    let of_cipher = Status::ReadFault { word: 2 };
+    // Each file is asked for its size, and its head, words and digest are read. Then its words are
+    // read again, row by row, and the file OUT is begun, written and put in its place.
+    let faults = [
+        of_secret,
+        of_secret,
+        of_secret,
+        of_secret,
+        of_cipher,
+        of_cipher,
+        of_cipher,
+        of_cipher,
+        of_secret,
+        of_cipher,
+        of_cipher,
+        Status::WriteFault,
+        Status::WriteFault,
+        Status::WriteFault,
     ];
-    for (call, status) in rows {
-        let o = outcome_of(alloc, &DECRYPT, &secret, &cipher, call, NEVER)?;
+    for (call, status) in faults.into_iter().enumerate() {
+        let o = outcome_of(alloc, &DECRYPT, &secret, &cipher, call as u64, NEVER)?;
         assert_eq!(rt; o.status, status, "call {call}");
         assert_eq!(rt; o.written.as_slice(), OLD.as_slice());
     }
@@ -178,98 +223,73 @@ fn a_failed_call_is_a_fault(rt: HostRuntime) -> Result<(), Fail> {
 #[test]
 fn each_field_of_a_head_counts(rt: HostRuntime) -> Result<(), Fail> {
     let alloc = rt.alloc();
-    let (secret, cipher) = (secret_file(alloc)?, cipher_file(alloc)?);
-    let of_the_cipher = [
-        (0, 67),
-        (6, 71),
-        (7, 0),
-        (7, 2),
-        (8, 1),
-        (8, 4),
-        (9, 1),
-        (9, 5),
-        (10, 0),
-        (10, 1),
-        (10, 3),
-        (11, 1),
-        (12, 3),
-        (15, 1),
-        (36, 1),
-        (39, 1),
-        (40, 31),
-        (40, 48),
-        (47, 1),
-        (48, 1),
-        (63, 1),
+    let secret = secret_file(alloc)?;
+    let rows: [(usize, u8, &str); 23] = [
+        (0, 67, "not ours: c\n"),
+        (6, 71, "not ours: c\n"),
+        (7, 0, "version 0: c\n"),
+        (7, 2, "version 2: c\n"),
+        (8, 0, "damaged: c field 8\n"),
+        (8, 1, "wrong kind 1: c\n"),
+        (8, 4, "wrong kind 4: c\n"),
+        (8, 6, "damaged: c field 8\n"),
+        (9, 1, "damaged: c field 40\n"),
+        (9, 5, "damaged: c field 9\n"),
+        (10, 0, "damaged: c field 10\n"),
+        (10, 1, "damaged: c field 10\n"),
+        (10, 3, "damaged: c field 40\n"),
+        (11, 1, "damaged: c field 11\n"),
+        (12, 3, "damaged: c field 12\n"),
+        (15, 1, "damaged: c field 12\n"),
+        (36, 1, "damaged: c field 32\n"),
+        (39, 1, "damaged: c field 32\n"),
+        (40, 31, "damaged: c field 40\n"),
+        (40, 48, "damaged: c field 40\n"),
+        (47, 1, "damaged: c field 40\n"),
+        (48, 1, "damaged: c field 48\n"),
+        (63, 1, "damaged: c field 48\n"),
     ];
-    for (at, byte) in of_the_cipher {
-        let head = with_byte(CIPHER_HEAD, at, byte);
-        let mut words = [0; 32];
-        words[0] = FIRST_WORD;
-        let broken = file_of(alloc, &head, &words)?;
-        let o = outcome_of(alloc, &DECRYPT, &secret, &broken, NEVER, NEVER)?;
-        assert_eq!(rt; o.status, Status::NotOurs { word: 2 }, "byte {at}");
-        assert_eq!(rt; o.written.as_slice(), OLD.as_slice());
-    }
-    let of_the_secret = [
-        (0, 67),
-        (6, 71),
-        (7, 0),
-        (7, 2),
-        (8, 2),
-        (8, 5),
-        (9, 1),
-        (9, 5),
-        (10, 2),
-        (11, 1),
-        (12, 1),
-        (15, 1),
-        (32, 1),
-        (36, 1),
-        (40, 15),
-        (40, 32),
-        (47, 1),
-        (48, 1),
-        (63, 1),
-    ];
-    for (at, byte) in of_the_secret {
-        let head = with_byte(SECRET_HEAD, at, byte);
-        let broken = file_of(alloc, &head, &SECRET_WORDS)?;
-        let o = outcome_of(alloc, &DECRYPT, &broken, &cipher, NEVER, NEVER)?;
-        assert_eq!(rt; o.status, Status::NotOurs { word: 1 }, "byte {at}");
+    let mut words = [0; 32];
+    words[0] = FIRST_WORD;
+    for (at, byte, line) in rows {
+        let cipher = file_of(alloc, &with_byte(CIPHER_HEAD, at, byte), &words)?;
+        let o = outcome_of(alloc, &DECRYPT, &secret, &cipher, NEVER, NEVER)?;
+        assert_eq!(rt; o.printed.as_slice(), line.as_bytes());
         assert_eq!(rt; o.written.as_slice(), OLD.as_slice());
     }
     Ok(())
 }
 
 #[test]
-fn each_length_and_word_counts(rt: HostRuntime) -> Result<(), Fail> {
+fn each_field_of_the_head_of_a_secret_counts(rt: HostRuntime) -> Result<(), Fail> {
     let alloc = rt.alloc();
-    let (secret, cipher) = (secret_file(alloc)?, cipher_file(alloc)?);
-    for length in [0, 6, 7, 63, 64, 95, 96, 319, 351] {
-        let short = front_of(alloc, &cipher, length)?;
-        let o = outcome_of(alloc, &DECRYPT, &secret, &short, NEVER, NEVER)?;
-        assert_eq!(rt; o.status, Status::NotOurs { word: 2 }, "{length} bytes");
+    let cipher = cipher_file(alloc)?;
+    let rows: [(usize, u8, &str); 19] = [
+        (0, 67, "not ours: sec\n"),
+        (6, 71, "not ours: sec\n"),
+        (7, 0, "version 0: sec\n"),
+        (7, 2, "version 2: sec\n"),
+        (8, 2, "wrong kind 2: sec\n"),
+        (8, 5, "wrong kind 5: sec\n"),
+        (9, 2, "damaged: sec field 40\n"),
+        (9, 5, "damaged: sec field 9\n"),
+        (10, 2, "damaged: sec field 10\n"),
+        (11, 1, "damaged: sec field 11\n"),
+        (12, 1, "damaged: sec field 12\n"),
+        (15, 1, "damaged: sec field 12\n"),
+        (32, 1, "damaged: sec field 32\n"),
+        (36, 1, "damaged: sec field 32\n"),
+        (40, 15, "damaged: sec field 40\n"),
+        (40, 32, "damaged: sec field 40\n"),
+        (47, 1, "damaged: sec field 40\n"),
+        (48, 1, "damaged: sec field 48\n"),
+        (63, 1, "damaged: sec field 48\n"),
+    ];
+    for (at, byte, line) in rows {
+        let secret = file_of(alloc, &with_byte(SECRET_HEAD, at, byte), &SECRET_WORDS)?;
+        let o = outcome_of(alloc, &DECRYPT, &secret, &cipher, NEVER, NEVER)?;
+        assert_eq!(rt; o.printed.as_slice(), line.as_bytes());
+        assert_eq!(rt; o.written.as_slice(), OLD.as_slice());
     }
-    let mut long = cipher.clone()?;
-    long.push(0)?;
-    let o = outcome_of(alloc, &DECRYPT, &secret, &long, NEVER, NEVER)?;
-    assert_eq!(rt; o.status, Status::NotOurs { word: 2 });
-    let mut changed = cipher.clone()?;
-    if let Some(last) = changed.last_mut() {
-        *last ^= 1;
-    }
-    let o = outcome_of(alloc, &DECRYPT, &secret, &changed, NEVER, NEVER)?;
-    assert_eq!(rt; o.status, Status::NotOurs { word: 2 });
-    let mut words = [0; 32];
-    words[31] = 36_028_797_017_456_641;
-    let unreduced = file_of(alloc, &CIPHER_HEAD, &words)?;
-    let o = outcome_of(alloc, &DECRYPT, &secret, &unreduced, NEVER, NEVER)?;
-    assert_eq!(rt; o.status, Status::NotOurs { word: 2 });
-    let mut words = SECRET_WORDS;
-    words[15] = 3;
-    let no_secret = file_of(alloc, &SECRET_HEAD, &words)?;
-    let o = outcome_of(alloc, &DECRYPT, &no_secret, &cipher, NEVER, NEVER)?;
-    assert_eq!(rt; o.status, Status::NotOurs { word: 1 });
     Ok(())
 }

@@ -6,6 +6,8 @@ mod check;
 #[cfg(test)]
 mod decrypt;
 #[cfg(test)]
+mod files;
+#[cfg(test)]
 mod keys;
 #[cfg(test)]
 mod words;
