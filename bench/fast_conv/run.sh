@@ -6,26 +6,13 @@
 # least microseconds of a call of each.
 # The programs run in turn, round by round; a ratio is the best time of the proved code over the best of the other.
 # The proved code is built for the processor x86-64-v2, and reduces each word that it reads and writes.
-set -euo pipefail
+. "$(dirname "$0")/../common.sh"
 
-yardstick=$(realpath "${1:?give the path of the program to compare with}")
+yardstick=$(realpath -e "${1:?give the path of the program to compare with}")
 rounds=${2:-5}
-repository=$(cd "$(dirname "$0")/../.." && pwd)
-work=$(mktemp -d)
-trap 'rm -rf "$work"' EXIT
+start conv_bench set_table word_mod ring_law res_base bfv_model fast_conv anyhow
 
-mkdir -p "$work/crates/conv_bench/src"
-cd "$work"
-git init -q
-for crate in set_table bound_num word_mod ring_law res_base bfv_model fast_conv; do
-    mkdir "crates/$crate"
-    cp -r "$repository/crates/$crate"/{src,specs,proofs} "crates/$crate/"
-done
-echo 'Handles allowed: none.' > HANDLES
-grep -E '^(set_table|bound_num|word_mod|ring_law|res_base|bfv_model|fast_conv):' "$repository/crates.txt" > crates.txt
-echo 'conv_bench: set_table word_mod ring_law res_base bfv_model fast_conv anyhow' >> crates.txt
-
-cat > crates/conv_bench/src/main.rt <<'RATTLE'
+cat > src/main.rt <<'RATTLE'
 // Prints the least nanoseconds that each call takes, and a sum of what it wrote.
 #![tactic(auto)]
 
@@ -199,24 +186,14 @@ fn main(rt: HostRuntime) -> anyhow::Result<()> {
 }
 RATTLE
 for function in is_coprime are_coprime; do
-    mkdir -p "crates/conv_bench/proofs/$function"
     for file in "$repository/crates/fast_conv/proofs/tests/$function"/*.antt; do
-        sed 's/Rattle\.fast_conv\.proofs\.tests\./Rattle.conv_bench.proofs./' "$file" > "crates/conv_bench/proofs/$function/$(basename "$file")"
+        sed 's/Rattle\.fast_conv\.proofs\.tests\./Rattle.conv_bench.proofs./' "$file" | proof "$function/$(basename "$file")"
     done
 done
 
-cd crates/conv_bench
-rt run > "$work/build.txt" 2>&1 || { cat "$work/build.txt" >&2; exit 1; }
-mkdir "$work/proved" "$work/other"
+build
 for round in $(seq "$rounds"); do
-    "$yardstick" bench s16384 0.2 piece_lift piece_floor_back | tail -1 > "$work/other/$round.txt"
-    out/conv_bench > "$work/proved/$round.txt"
+    least_of "$yardstick" s16384 0.2 piece_lift piece_floor_back > "$work/other/$round.txt"
+    "$built" > "$work/proved/$round.txt"
 done
-
-proved() { sed -n "s/^$1 \([0-9]*\) .*/\1/p" "$work/proved"/*.txt | sort -n | head -1; }
-other() { sed -n "s/.*\"least\":{[^}]*\"$1\":\([0-9.]*\).*/\1/p" "$work/other"/*.txt | sort -n | head -1; }
-for piece in piece_lift piece_floor_back; do
-    awk -v piece="$piece" -v proved="$(proved "$piece")" -v other="$(other "$piece")" 'BEGIN {
-        printf "%-18s %8.1f us; the other program %8.1f us, ratio %.2f\n", piece, proved / 1000, other, proved / 1000 / other
-    }'
-done
+for piece in piece_lift piece_floor_back; do print_ratio "$piece" "$piece"; done

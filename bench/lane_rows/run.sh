@@ -3,22 +3,12 @@
 # Usage: bench/lane_rows/run.sh [ROUNDS]. It needs `rt` and a C compiler (CC, or else cc).
 # The programs run in turn, round by round; a ratio is the best time of the proved code over the best time in C.
 # The proved code is built for the processor x86-64-v2.
-set -euo pipefail
+. "$(dirname "$0")/../common.sh"
 
 rounds=${1:-8}
-repository=$(cd "$(dirname "$0")/../.." && pwd)
-work=$(mktemp -d)
-trap 'rm -rf "$work"' EXIT
+start lane_bench lane_rows
 
-mkdir -p "$work/rows/crates/lane_bench/src"
-cd "$work/rows"
-git init -q
-mkdir crates/lane_rows
-cp -r "$repository"/crates/lane_rows/{src,specs,proofs} crates/lane_rows/
-echo 'Handles allowed: none.' > HANDLES
-printf 'lane_rows:\nlane_bench: lane_rows\n' > crates.txt
-
-cat > crates/lane_bench/src/main.rt <<'RATTLE'
+cat > src/main.rt <<'RATTLE'
 // Prints the nanoseconds that each call takes on rows of 16384 words, and a sum of what it wrote.
 #![tactic(auto)]
 
@@ -108,15 +98,14 @@ fn main(rt: HostRuntime) -> io::Result<()> {
     pairs(&rt, shoup, a.as_mut_slice(), b.as_mut_slice())
 }
 RATTLE
-mkdir -p crates/lane_bench/proofs/fill crates/lane_bench/proofs/pairs
-cat > crates/lane_bench/proofs/fill/Invariants.antt <<'ANTT'
+proof fill/Invariants.antt <<'ANTT'
 use Rattle.std.proofs.Common.{ℕ, ◌<◌, get_or}
 use Rattle.lane_bench.proofs.fill.Given as goal
 
 abbrev pub invariant-loop-i : goal.invariant-loop-i
 invariant-loop-i l = (j : ℕ) → j < l.i → get_or l.row j 0 < l.bound
 ANTT
-cat > crates/lane_bench/proofs/pairs/Invariants.antt <<'ANTT'
+proof pairs/Invariants.antt <<'ANTT'
 use Rattle.std.proofs.Common.{◌*◌}
 use Rattle.lane_rows.specs.Rows.{RowBelow}
 use Rattle.lane_bench.specs.declared.TheConstants.{Q}
@@ -126,8 +115,7 @@ abbrev pub invariant-turns : goal.invariant-turns
 invariant-turns g l = RowBelow (4 * Q) l.lo
 ANTT
 
-mkdir "$work/c"
-cat > "$work/c/bench.c" <<'C'
+build_c <<'C'
 #include <inttypes.h>
 #include <stdint.h>
 #include <stdio.h>
@@ -197,23 +185,17 @@ int main(void) {
     report("butterflies", start, a);
 }
 C
-mkdir "$work/plain" "$work/native"
-"${CC:-cc}" -O3 -o "$work/c/plain" "$work/c/bench.c"
-"${CC:-cc}" -O3 -march=native -o "$work/c/native" "$work/c/bench.c"
 
-cd crates/lane_bench
-rt run > "$work/build.txt" 2>&1 || { cat "$work/build.txt" >&2; exit 1; }
+build
 for round in $(seq "$rounds"); do
     "$work/c/plain" > "$work/plain/$round.txt"
     "$work/c/native" > "$work/native/$round.txt"
-    out/lane_bench > "$work/rows/$round.txt"
+    "$built" > "$work/proved/$round.txt"
 done
 
-best() { sed -n "s/^$call \([0-9]*\) .*/\1/p" "$work/$1"/*.txt | sort -n | head -1; }
-written() { sed -n "s/^$call [0-9]* \(.*\)/\1/p" "$work/$1/1.txt"; }
 for call in add_row scale_row butterflies; do
-    [ "$(written rows)" = "$(written plain)" ] || { echo "$call: the two programs disagree" >&2; exit 1; }
-    awk -v call="$call" -v rows="$(best rows)" -v plain="$(best plain)" -v native="$(best native)" 'BEGIN {
+    agree "$call"
+    awk -v call="$call" -v rows="$(best proved "$call")" -v plain="$(best plain "$call")" -v native="$(best native "$call")" 'BEGIN {
         printf "%-12s %7.1f us; C -O3 %7.1f us, ratio %.2f; C -O3 -march=native %7.1f us, ratio %.2f\n",
             call, rows / 1000, plain / 1000, rows / plain, native / 1000, rows / native
     }'

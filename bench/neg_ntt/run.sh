@@ -2,30 +2,17 @@
 # Compares the transform there and back of 16384 words with the same algorithm in C at -O3: layer by layer, with words below
 # 4q and 2q, by Shoup's products.
 # Usage: bench/neg_ntt/run.sh [ROUNDS [PROGRAM]]. It needs `rt` and a C compiler (CC, or else cc).
-# PROGRAM is a further program to compare with: where it is called with `bench s16384 SECONDS ntt_forward ntt_inverse`, it
-# prints for each of the two a line with its name, a median and its least time in microseconds.
+# PROGRAM is a further program to compare with, which answers `PROGRAM bench s16384 SECONDS ntt_forward ntt_inverse` with a
+# last line of JSON, in which "least" has the least microseconds of a call of each.
 # The programs run in turn, round by round; a ratio is the best time of the proved code over the best time of the other.
 # The proved code is built for the processor x86-64-v2.
-set -euo pipefail
+. "$(dirname "$0")/../common.sh"
 
 rounds=${1:-40}
-other=${2:+$(realpath "$2")}
-repository=$(cd "$(dirname "$0")/../.." && pwd)
-work=$(mktemp -d)
-trap 'rm -rf "$work"' EXIT
+other=${2:+$(realpath -e "$2")}
+start ntt_bench word_mod lane_rows ring_law neg_ntt
 
-mkdir -p "$work/proved/crates/ntt_bench/src"
-cd "$work/proved"
-git init -q
-for crate in word_mod lane_rows ring_law neg_ntt; do
-    mkdir "crates/$crate"
-    cp -r "$repository/crates/$crate/"{src,specs,proofs} "crates/$crate/"
-done
-echo 'Handles allowed: none.' > HANDLES
-printf '%s\n' word_mod: lane_rows: ring_law: 'neg_ntt: word_mod lane_rows ring_law thiserror' \
-    'ntt_bench: word_mod lane_rows ring_law neg_ntt' > crates.txt
-
-cat > crates/ntt_bench/src/main.rt <<'RATTLE'
+cat > src/main.rt <<'RATTLE'
 // Prints the nanoseconds that a transform of 16384 words takes there and back, and a sum of what it wrote.
 #![tactic(auto)]
 
@@ -113,8 +100,7 @@ fn main(rt: HostRuntime) -> io::Result<()> {
     Ok(())
 }
 RATTLE
-mkdir -p crates/ntt_bench/proofs/{fill,forward,inverse}
-cat > crates/ntt_bench/proofs/fill/Invariants.antt <<'ANTT'
+proof fill/Invariants.antt <<'ANTT'
 use Rattle.std.proofs.Common.{ℕ, ◌<◌, get_or}
 use Rattle.ntt_bench.proofs.fill.Given as goal
 
@@ -122,7 +108,7 @@ abbrev pub invariant-loop-i : goal.invariant-loop-i
 invariant-loop-i g l = (j : ℕ) → j < l.i → get_or l.row j 0 < l.bound
 ANTT
 for call in forward inverse; do
-    cat > crates/ntt_bench/proofs/$call/Invariants.antt <<ANTT
+    proof $call/Invariants.antt <<ANTT
 use Rattle.ring_law.specs.Rows.{IsReduced}
 use Rattle.ntt_bench.proofs.$call.Given as goal
 
@@ -131,8 +117,7 @@ invariant-turns g l = IsReduced g.row.N l.transform.modulus l.row
 ANTT
 done
 
-mkdir "$work/c"
-cat > "$work/c/bench.c" <<'C'
+build_c <<'C'
 #include <inttypes.h>
 #include <stdint.h>
 #include <stdio.h>
@@ -220,28 +205,19 @@ int main(void) {
     report("inverse", start);
 }
 C
-mkdir "$work/plain" "$work/native" "$work/rows" "$work/other"
-"${CC:-cc}" -O3 -o "$work/c/plain" "$work/c/bench.c"
-"${CC:-cc}" -O3 -march=native -o "$work/c/native" "$work/c/bench.c"
 
-cd crates/ntt_bench
-rt run > "$work/build.txt" 2>&1 || { cat "$work/build.txt" >&2; exit 1; }
+build
 for round in $(seq "$rounds"); do
     "$work/c/plain" > "$work/plain/$round.txt"
     "$work/c/native" > "$work/native/$round.txt"
-    out/ntt_bench > "$work/rows/$round.txt"
-    if [ -n "$other" ]; then
-        "$other" bench s16384 0.1 ntt_forward ntt_inverse \
-            | awk '$1 ~ /^ntt_/ { sub(/^ntt_/, "", $1); printf "%s %.0f 0\n", $1, 1000 * $3 }' > "$work/other/$round.txt"
-    fi
+    "$built" > "$work/proved/$round.txt"
+    [ -z "$other" ] || least_of "$other" s16384 0.1 ntt_forward ntt_inverse | sed 's/^ntt_//' > "$work/other/$round.txt"
 done
 
-best() { sed -n "s/^$call \([0-9]*\) .*/\1/p" "$work/$1"/*.txt | sort -n | head -1; }
-written() { sed -n "s/^$call [0-9]* \(.*\)/\1/p" "$work/$1/1.txt"; }
 for call in forward inverse; do
-    [ "$(written rows)" = "$(written plain)" ] || { echo "$call: the two programs disagree" >&2; exit 1; }
-    awk -v call="$call" -v rows="$(best rows)" -v plain="$(best plain)" -v native="$(best native)" \
-        -v other="$([ -z "$other" ] || best other)" 'BEGIN {
+    agree "$call"
+    awk -v call="$call" -v rows="$(best proved "$call")" -v plain="$(best plain "$call")" -v native="$(best native "$call")" \
+        -v other="$([ -z "$other" ] || best other "$call")" 'BEGIN {
         printf "%-8s %7.1f us; C -O3 %7.1f us, ratio %.2f; C -O3 -march=native %7.1f us, ratio %.2f",
             call, rows / 1000, plain / 1000, rows / plain, native / 1000, rows / native
         if (other != "") printf "; other program %7.1f us, ratio %.2f", other / 1000, rows / other
