@@ -1,0 +1,9 @@
+pub mod SlotValues
+pub mod Carrying
+pub mod Results
+pub mod SplitPlaces
+pub mod Registers
+pub mod Live
+pub mod Inputs
+pub mod Plans
+pub mod Running

@@ -1,0 +1,80 @@
+-- Plans, and the ciphers at all places.
+use Rattle.std.proofs.Common.{arith, ◌≡◌, ◌≢◌, ◌⊎◌, ℕ, zero, suc, ◌+◌, ◌*◌, ◌<◌, ◌≤◌, true, sym, ap, subst, ◌∙◌, ⊎_elim, inl, inr, List, ◌++◌, take, drop, length, slice_index}
+use Rattle.std.proofs.lemmas.Bool.{cases_eq, cases_lt}
+use Rattle.std.proofs.lemmas.List.{take_at}
+use Rattle.set_table.specs.declared.SetName.{SetName}
+use Rattle.set_table.specs.Sets.{aux_of, data_of}
+use Rattle.script_text.specs.Scripts.{Script}
+use Rattle.bfv_params.specs.Values.{CipherValue, ContextValue}
+use Rattle.bfv_linear.specs.Ciphers.{IsCipherOf}
+use Rattle.script_run.specs.Registers.{IsPlan, input_count}
+use Rattle.script_run.specs.Places.{cipher_at}
+use Rattle.script_run.specs.Workspaces.{WorkspaceValue, IsWorkspace, input_of, whole_context}
+
+-- the plan in which each register has a place of its own
+pub own_plan : (script : Script) (plan : List ℕ) (registers count : ℕ) → registers ≡ input_count script + length script.steps → length plan ≡ registers
+    → ((r : ℕ) → r < registers → slice_index plan r ≡ r) → count ≡ registers + 1 → IsPlan script plan count
+own_plan script plan registers count all size each more = record {
+  size = size ∙ all;
+  within = λ r planned. let own = each r (omega arith) in omega arith;
+  apart = λ i r other within live live_other equal.
+      let defined = live.defined in
+      let defined_other = live_other.defined in
+      sym (each r (omega arith)) ∙ equal ∙ each other (omega arith);
+  result = λ i r below live equal.
+      let defined = live.defined in
+      let here = each r (omega arith) in
+      let there = each (input_count script + i) (omega arith) in
+      omega arith;
+}
+
+-- an input has the place, or none has it
+input_at : (inputs : ℕ) (plan : List ℕ) (p : ℕ) → ((r : ℕ) × (r < inputs) × (slice_index plan r ≡ p)) ⊎ ((r : ℕ) → r < inputs → slice_index plan r ≢ p)
+input_at zero plan p = inr (λ r below equal. absurd (omega (arith, below)))
+input_at (suc inputs) plan p = ⊎_elim
+    (λ (r, below, is). inl (r, omega (arith, below), is))
+    (λ none. ⊎_elim (λ is. inl (inputs, omega arith, is))
+    (λ not. inr (λ r below equal. ⊎_elim (λ before. none r before equal) (λ last. not (ap (slice_index plan) (same inputs r below last) ∙ equal)) (cases_lt r inputs)))
+    (cases_eq (slice_index plan inputs) p))
+    (input_at inputs plan p)
+  where
+    same : (inputs r : ℕ) → r < suc inputs → inputs ≤ r → inputs ≡ r
+    same inputs r below last = omega arith
+
+of_context : (set : SetName) (ctx : ContextValue) (cipher : CipherValue) → set ≡ ctx.set → ctx.level ≡ length (data_of ctx.set) → IsCipherOf (whole_context set) cipher → IsCipherOf ctx cipher
+of_context set ctx cipher same level kept = record { set = kept.set ∙ same; level = kept.level ∙ ap (λ (s : SetName). length (data_of s)) same ∙ sym level }
+
+-- the cipher at each place is of the context, if those of the inputs are
+pub places_of_context : (n : ℕ) (space : WorkspaceValue) (scratch : ℕ) (ctx : ContextValue) → IsWorkspace n space scratch → space.set ≡ ctx.set → ctx.level ≡ length (data_of ctx.set)
+    → ((r : ℕ) → r < space.inputs → IsCipherOf ctx (input_of space r)) → (p : ℕ) → p < length space.places → IsCipherOf ctx (cipher_at space.places p)
+places_of_context n space scratch ctx kept same level inputs p inside = ⊎_elim
+    (λ (r, below, is). subst (λ (k : ℕ). IsCipherOf ctx (cipher_at space.places k)) is (inputs r below))
+    (λ none. of_context space.set ctx (cipher_at space.places p) same level (kept.others p inside none))
+    (input_at space.inputs space.plan p)
+
+-- a cipher of the context of all data moduli
+pub of_whole : (ctx : ContextValue) (set : SetName) (cipher : CipherValue) → set ≡ ctx.set → ctx.level ≡ length (data_of ctx.set) → IsCipherOf ctx cipher → IsCipherOf (whole_context set) cipher
+of_whole ctx set cipher same level kept = record { set = kept.set ∙ sym same; level = kept.level ∙ level ∙ ap (λ (s : SetName). length (data_of s)) (sym same) }
+
+-- the rows to work in are those that the context asks for
+pub scratch_of_context : (n : ℕ) (space : WorkspaceValue) (scratch : ℕ) (ctx : ContextValue) → IsWorkspace n space scratch → space.set ≡ ctx.set → ctx.level ≡ length (data_of ctx.set)
+    → scratch ≡ 8 * (ctx.level + length (aux_of ctx.set) + 2)
+scratch_of_context n space scratch ctx kept same level =
+    kept.scratch_rows ∙ ap (λ (s : SetName). 8 * (length (data_of s) + length (aux_of s) + 2)) same ∙ ap (λ (k : ℕ). 8 * (k + length (aux_of ctx.set) + 2)) (sym level)
+
+-- what a workspace keeps once more, after all its places were written
+pub kept_after : (n : ℕ) (space : WorkspaceValue) (scratch rows : ℕ) (ctx : ContextValue) (places : List CipherValue) (place : ℕ) → IsWorkspace n space scratch → space.set ≡ ctx.set → ctx.level ≡ length (data_of ctx.set)
+    → length places ≡ length space.places → ((p : ℕ) → p < length places → IsCipherOf ctx (cipher_at places p)) → place < length places → rows ≡ scratch
+    → IsWorkspace n (record (space) { places = places; done = true; at = place }) rows
+kept_after n space scratch rows ctx places place kept same level count all there size = record {
+  degree = kept.degree;
+  planned = kept.planned;
+  within = λ r planned. subst (λ (k : ℕ). slice_index space.plan r < k) (sym count) (kept.within r planned);
+  there = λ _. there;
+  others = λ p inside none. of_whole ctx space.set (cipher_at places p) same level (all p inside);
+  scratch_rows = size ∙ kept.scratch_rows;
+}
+
+-- a list that is written whole
+pub written_whole : {A : Type 0} (count : ℕ) (new old : List A) → length new ≡ count → take count (new ++ drop (length new) old) ≡ new
+written_whole count new old size = take_at new (drop (length new) old) count size

@@ -1,0 +1,5 @@
+pub mod Registers
+pub mod Places
+pub mod Workspaces
+pub mod Runs
+pub mod Steps

@@ -1,0 +1,53 @@
+-- When a register of a script is live, and plans that give each register a place.
+use Rattle.std.specs.Prelude.{◌≡◌, ◌≢◌, ◌⊎◌, ℕ, ◌+◌, ◌<◌, ◌≤◌, List, length, slice_index, slice_get, Bool, true, false, Some}
+use Rattle.script_text.specs.declared.script.Op.{Op}
+use Rattle.script_text.specs.declared.script.Op.TheVariants.{Add, Sub, Neg, AddPlain, SubPlain, MulPlain, MulConst, Mul, Relin, Turn, Swap}
+use Rattle.script_text.specs.declared.script.Step.{Step}
+use Rattle.script_text.specs.Scripts.{Script, cipher_inputs}
+
+-- whether an operation reads a register
+abbrev pub Reads : Op → ℕ → Type 0
+Reads (Add a b) r = (r ≡ a) ⊎ (r ≡ b)
+Reads (Sub a b) r = (r ≡ a) ⊎ (r ≡ b)
+Reads (Neg a) r = r ≡ a
+Reads (AddPlain a p) r = r ≡ a
+Reads (SubPlain a p) r = r ≡ a
+Reads (MulPlain a p) r = r ≡ a
+Reads (MulConst a k) r = r ≡ a
+Reads (Mul a b) r = (r ≡ a) ⊎ (r ≡ b)
+Reads (Relin a) r = r ≡ a
+Reads (Turn a k) r = r ≡ a
+Reads (Swap a) r = r ≡ a
+
+-- whether an operation is linear: none but these switches keys or multiplies two ciphers
+abbrev pub is_linear : Op → Bool
+is_linear (Add a b) = true
+is_linear (Sub a b) = true
+is_linear (Neg a) = true
+is_linear (AddPlain a p) = true
+is_linear (SubPlain a p) = true
+is_linear (MulPlain a p) = true
+is_linear (MulConst a k) = true
+is_linear op = false
+
+-- the number of cipher inputs, which are the first registers
+abbrev pub input_count : Script → ℕ
+input_count script = length (cipher_inputs script.inputs)
+
+-- step i or a later one reads the register
+abbrev pub IsReadFrom : Script → ℕ → ℕ → Type 0
+IsReadFrom script i r = (j : ℕ) × (step : Step) × (i ≤ j) × (slice_get script.steps j ≡ Some step) × Reads step.op r
+
+-- The register is live before step i, or after the last step if there is no step i: it was defined before, and it is put out or read
+-- by step i or a later one. Before step 0 every input is live.
+pub record Live (script : Script) (i r : ℕ) : Type 0 where
+  pub defined : r < input_count script + i
+  pub needed : (i ≡ 0) ⊎ ((r ≡ script.output) ⊎ IsReadFrom script i r)
+
+-- A plan gives each register one of `count` places. No two registers that are live at one moment have the same, and the result of a
+-- step has the place of no register that is live before that step.
+pub record IsPlan (script : Script) (plan : List ℕ) (count : ℕ) : Type 0 where
+  pub size : length plan ≡ input_count script + length script.steps
+  pub within : (r : ℕ) → r < length plan → slice_index plan r < count
+  pub apart : (i r other : ℕ) → i ≤ length script.steps → Live script i r → Live script i other → slice_index plan r ≡ slice_index plan other → r ≡ other
+  pub result : (i r : ℕ) → i < length script.steps → Live script i r → slice_index plan r ≢ slice_index plan (input_count script + i)

@@ -1,0 +1,15 @@
+//! Runs of scripts on ciphertexts, in a workspace that has all the memory that a run needs.
+//!
+//! A workspace is made for a script. Its places for the inputs are filled, the script is executed,
+//! and the result is read; then they may be filled again.
+#![tactic(auto)]
+
+mod linear;
+mod run;
+mod step;
+#[cfg(test)]
+mod tests;
+mod workspace;
+
+pub use linear::first_nonlinear;
+pub use workspace::Workspace;
