@@ -8,9 +8,9 @@ use Rattle.std.proofs.lemmas.Option.{get_or_from_slice_get}
 use Rattle.script_text.specs.declared.script.Op.{Op}
 use Rattle.script_text.specs.declared.script.Op.TheVariants.{Add, Sub, Neg, AddPlain, SubPlain, MulPlain, MulConst, Mul, Relin, Turn, Swap}
 use Rattle.script_text.specs.declared.script.Step.{Step}
-use Rattle.script_text.specs.Scripts.{Script}
+use Rattle.script_text.specs.Scripts.{Script, is_linear}
 use Rattle.script_text.specs.Evaluating.{IsWithin}
-use Rattle.script_run.specs.Registers.{IsPlan, Live, Reads, input_count, is_linear}
+use Rattle.script_run.specs.Registers.{IsPlan, Live, Reads, input_count}
 use Rattle.script_run.specs.Steps.{OnOperands, OnPlain}
 
 -- a fact of each register that an operation reads is one of its operands

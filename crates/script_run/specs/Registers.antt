@@ -1,5 +1,5 @@
 -- When a register of a script is live, and plans that give each register a place.
-use Rattle.std.specs.Prelude.{◌≡◌, ◌≢◌, ◌⊎◌, ℕ, ◌+◌, ◌<◌, ◌≤◌, List, length, slice_index, slice_get, Bool, true, false, Some}
+use Rattle.std.specs.Prelude.{◌≡◌, ◌≢◌, ◌⊎◌, ℕ, ◌+◌, ◌<◌, ◌≤◌, List, length, slice_index, slice_get, Some}
 use Rattle.script_text.specs.declared.script.Op.{Op}
 use Rattle.script_text.specs.declared.script.Op.TheVariants.{Add, Sub, Neg, AddPlain, SubPlain, MulPlain, MulConst, Mul, Relin, Turn, Swap}
 use Rattle.script_text.specs.declared.script.Step.{Step}
@@ -18,17 +18,6 @@ Reads (Mul a b) r = (r ≡ a) ⊎ (r ≡ b)
 Reads (Relin a) r = r ≡ a
 Reads (Turn a k) r = r ≡ a
 Reads (Swap a) r = r ≡ a
-
--- whether an operation is linear: none but these switches keys or multiplies two ciphers
-abbrev pub is_linear : Op → Bool
-is_linear (Add a b) = true
-is_linear (Sub a b) = true
-is_linear (Neg a) = true
-is_linear (AddPlain a p) = true
-is_linear (SubPlain a p) = true
-is_linear (MulPlain a p) = true
-is_linear (MulConst a k) = true
-is_linear op = false
 
 -- the number of cipher inputs, which are the first registers
 abbrev pub input_count : Script → ℕ

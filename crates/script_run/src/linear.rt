@@ -2,7 +2,7 @@
 
 ghost use Rattle.std.specs.Prelude.{◌≡◌, true, not, position, All};
 ghost use Rattle.std.specs.Option.{ForNone};
-ghost use Rattle.script_run.specs.Registers.{is_linear};
+ghost use Rattle.script_text.specs.Scripts.{is_linear};
 
 use script_text::{Op, Script};
 

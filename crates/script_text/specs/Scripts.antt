@@ -86,6 +86,17 @@ pub record IsSound (script : Script) : Type 0 where
   pub fit : AllFit script.set (length (plain_inputs script.inputs)) (replicate (length (cipher_inputs script.inputs)) 2) script.steps
   pub output : script.output < length (cipher_inputs script.inputs) + length script.steps
 
+-- whether an operation is linear: none but these switches keys or multiplies two ciphers
+abbrev pub is_linear : Op → Bool
+is_linear (Add a b) = true
+is_linear (Sub a b) = true
+is_linear (Neg a) = true
+is_linear (AddPlain a p) = true
+is_linear (SubPlain a p) = true
+is_linear (MulPlain a p) = true
+is_linear (MulConst a k) = true
+is_linear op = false
+
 -- the switching keys that an operation needs, each with its Galois element, where n is the degree
 abbrev pub keys_needed : ℕ → Op → List (KeyKind × ℕ)
 keys_needed n (Relin a) = (key.Relin, 0) ∷ []

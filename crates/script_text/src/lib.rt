@@ -24,3 +24,4 @@ pub use printer::print;
 pub use reading::read_values;
 pub use script::{InputKind, Op, Script};
 pub use values::print_values;
+pub use words::{is_name, is_passed_over};

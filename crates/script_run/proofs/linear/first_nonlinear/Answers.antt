@@ -1,6 +1,6 @@
 use Rattle.std.proofs.Common.{rules, arith, ◌≡◌, ◌<◌, ℕ, true, false, ◌∙◌, subst, length, get_or, ⊎_elim}
 use Rattle.std.proofs.lemmas.Bool.{cases_lt}
-use Rattle.script_run.specs.Registers.{is_linear}
+use Rattle.script_text.specs.Scripts.{is_linear}
 use Rattle.script_run.proofs.Live.{no_step, linear_read, first_is, none_is, all_linear}
 use Rattle.script_run.proofs.linear.first_nonlinear.Goals as goal
 

@@ -1,5 +1,5 @@
 use Rattle.std.proofs.Common.{◌≡◌, ◌<◌, ℕ, true, get_or}
-use Rattle.script_run.specs.Registers.{is_linear}
+use Rattle.script_text.specs.Scripts.{is_linear}
 use Rattle.script_run.proofs.Live.{no_step}
 use Rattle.script_run.proofs.linear.first_nonlinear.Given as goal
 
