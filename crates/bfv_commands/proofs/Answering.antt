@@ -73,14 +73,15 @@ rose_of_store old new old_sink new_sink None some rose = absurd (cc)
 
 -- the cause of a refusal is that of the answer, which may want memory for its line
 pub cause_of_refusal : (words : List (List ℕ)) (form : Form) (old new : StoreState) (old_sink new_sink : SinkState) (status answer : Status) → form_of words ≡ Some form
-    → Caused (IsOperand form) old new status → (status ≡ WriteFault → IsSome (out_name (Some form) words)) → (answer ≡ status) ⊎ (answer ≡ Memory) → Cause words old new old_sink new_sink answer
+    → Caused (IsOperand form (length words)) old new status → (status ≡ WriteFault → IsSome (out_name (Some form) words)) → (answer ≡ status) ⊎ (answer ≡ Memory) → Cause words old new old_sink new_sink answer
 cause_of_refusal words form old new old_sink new_sink status answer is cause file (inl same) = subst (Cause words old new old_sink new_sink) (sym same) record {
   usage = λ usage. absurd (cause.formed usage);
   no_form = λ none. absurd (cc);
   read = cause.read;
   write = λ fault. subst (λ (f : Option Form). WriteRose (out_name f words) old new old_sink new_sink) (sym is) (rose_of_store old new old_sink new_sink (out_name (Some form) words) (file fault) (cause.write fault));
   missing = cause.missing;
-  word = λ word at. subst (λ f. IsOperandOf f word) (sym is) (cause.word word at);
+  word = λ word at. subst (λ f. IsOperandOf f (length words) word) (sym is) (cause.word word at);
+  binding = cause.binding;
 }
 cause_of_refusal words form old new old_sink new_sink status answer is cause file (inr same) = subst (Cause words old new old_sink new_sink) (sym same) record {
   usage = λ usage. absurd (cc);
@@ -89,6 +90,7 @@ cause_of_refusal words form old new old_sink new_sink status answer is cause fil
   write = λ fault. absurd (cc);
   missing = λ word fault. absurd (cc);
   word = λ word at. absurd (cc);
+  binding = λ word at whole. absurd (cc);
 }
 
 -- the answer to a line that was put, or part of it, owes to the sink alone
@@ -102,6 +104,7 @@ cause_of_line words form old new old_sink new_sink text answer is no_file put = 
     write = λ fault. absurd (cc);
     missing = λ word fault. absurd (cc);
     word = λ word at. absurd (cc);
+    binding = λ word at whole. absurd (cc);
   }
   | inr other ↦ elim other [
     | inl memory ↦ subst (Cause words old new old_sink new_sink) (sym memory) record {
@@ -111,6 +114,7 @@ cause_of_line words form old new old_sink new_sink text answer is no_file put = 
       write = λ fault. absurd (cc);
       missing = λ word fault. absurd (cc);
       word = λ word at. absurd (cc);
+      binding = λ word at whole. absurd (cc);
     }
     | inr fault ↦ subst (Cause words old new old_sink new_sink) (sym fault.0) record {
       usage = λ usage. absurd (cc);
@@ -119,6 +123,7 @@ cause_of_line words form old new old_sink new_sink text answer is no_file put = 
       write = λ _. subst (λ (name : Option (List ℕ)). WriteRose name old new old_sink new_sink) (sym no_file) fault.1;
       missing = λ word fault. absurd (cc);
       word = λ word at. absurd (cc);
+      binding = λ word at whole. absurd (cc);
     }
   ]
 ]

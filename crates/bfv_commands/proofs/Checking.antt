@@ -53,4 +53,5 @@ caused_by_no_call IsNamed old new status c = record {
   write = c.write;
   missing = c.missing;
   word = λ word at. absurd (c.word word at);
+  binding = c.binding;
 }

@@ -40,6 +40,7 @@ caused_as P Q old new status named cause = record {
   write = cause.write;
   missing = cause.missing;
   word = λ word at. named word (cause.word word at);
+  binding = cause.binding;
 }
 
 rose_behind : (old between new : ℕ) → old ≤ between → Rose between new → Rose old new
@@ -55,6 +56,7 @@ caused_behind P old between new status keeps cause = record {
   write = λ fault. subst (λ (count : ℕ). Rose count new.write_faults) keeps.write_faults (cause.write fault);
   missing = λ word fault. rose_behind old.misses between.misses new.misses keeps.misses (cause.missing word fault);
   word = cause.word;
+  binding = cause.binding;
 }
 
 -- what is answered where a file can't be written is brought about by no word and no file

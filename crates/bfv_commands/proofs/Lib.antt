@@ -1,3 +1,12 @@
+pub mod Places
+pub mod BoundWords
+pub mod BoundReading
+pub mod Demanded
+pub mod InOrder
+pub mod Steps
+pub mod RunPlans
+pub mod InputNames
+pub mod Owners
 pub mod Fronts
 pub mod ValueTexts
 pub mod SeedFiles
@@ -9,7 +18,12 @@ pub mod DrawnContents
 pub mod Sealing
 pub mod Scanning
 pub mod MadeItems
+pub mod RunItems
 pub mod Standing
 pub mod Decryptions
 pub mod Checking
+pub mod AcceptedRuns
+pub mod OutputParts
 pub mod Answering
+pub mod Executing
+pub mod RunOutputs

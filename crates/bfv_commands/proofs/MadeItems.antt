@@ -35,14 +35,20 @@ pub record OperandContent (Is : FileContent → Type 0) (content : FileContent) 
   pub is_file : IsFile bytes content
   pub is : Is content
 
+-- a content that was taken of a file which stands for something of its kind
+pub content_at : (files : Files) (name : List ℕ) (wanted : Wanted) (word : ℕ) (content : FileContent) (Is : FileContent → Type 0)
+    → ((held : FileContent) → Is held → wants wanted held.kind ≡ true) → taken wanted word (file files name) ≡ Ok content
+    → (bytes : List ℕ) × ((file files name ≡ Some bytes) × ((held : FileContent) × (IsFile bytes held × Is held))) → OperandContent Is content
+content_at files name wanted word content Is is_wanted is (bytes, (at, (held, (is_file, held_is)))) =
+    let scanned_is : taken wanted word (Some bytes) ≡ Ok held = ap (content_or_fault word) (scanned-complete wanted bytes held is_file (is_wanted held held_is)) in
+    let same : held ≡ content = let both : Ok held ≡ Ok content = sym scanned_is ∙ ap (taken wanted word) (sym at) ∙ is in cc in
+    record { bytes = bytes; is_file = subst (IsFile bytes) same is_file; is = subst Is same held_is }
+
 -- an operand that was taken, whose file stands for something of its kind
 pub operand_content : (words : List (List ℕ)) (files : Files) (wanted : Wanted) (word : ℕ) (content : FileContent) (Is : FileContent → Type 0)
     → ((held : FileContent) → Is held → wants wanted held.kind ≡ true) → operand words files wanted word ≡ Ok content
     → (bytes : List ℕ) × ((file files (word_at words word) ≡ Some bytes) × ((held : FileContent) × (IsFile bytes held × Is held))) → OperandContent Is content
-operand_content words files wanted word content Is is_wanted is (bytes, (at, (held, (is_file, held_is)))) =
-    let scanned_is : taken wanted word (Some bytes) ≡ Ok held = ap (content_or_fault word) (scanned-complete wanted bytes held is_file (is_wanted held held_is)) in
-    let same : held ≡ content = let both : Ok held ≡ Ok content = sym scanned_is ∙ ap (taken wanted word) (sym at) ∙ is in cc in
-    record { bytes = bytes; is_file = subst (IsFile bytes) same is_file; is = subst Is same held_is }
+operand_content words files wanted word content Is is_wanted is told = content_at files (word_at words word) wanted word content Is is_wanted is told
 
 -- a content that belongs to an owner is of a wanted kind
 pub belongs_wanted : (wanted : Wanted) (owner : Owner) (kind : FileKind) (content : FileContent) → wants wanted kind ≡ true → BelongsTo owner kind content
@@ -59,7 +65,7 @@ owner_of_content owner kind content belongs = sym (ap (λ (set : SetName). recor
     ∙ ap (λ (id : List ℕ). record { set = owner.set; key_id = id; secret = owner.secret }) belongs.of_key)
 
 -- the file of a name that stands for a text has its bytes
-text_at : (files : Files) (state : State) (name bytes : List ℕ) → Stands files state → state name ≡ Some (text bytes) → file files name ≡ Some bytes
+pub text_at : (files : Files) (state : State) (name bytes : List ℕ) → Stands files state → state name ≡ Some (text bytes) → file files name ≡ Some bytes
 text_at files state name bytes stands is = let held = stands.each name (text bytes) is in held.1.0 ∙ ap Some held.1.1
 
 -- ---- a drawn secret

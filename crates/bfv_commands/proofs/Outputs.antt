@@ -20,17 +20,14 @@ use Rattle.command_words.specs.declared.form.Form.{Form}
 use Rattle.command_words.specs.declared.form.Form.TheVariants as form
 use Rattle.command_words.specs.declared.status.Status.{Status}
 use Rattle.command_words.specs.declared.status.Status.TheVariants.{Done, Memory, ReadFault, WriteFault, SetMismatch, KeyMismatch, NoSpecial}
-use Rattle.command_model.specs.Plan.{Output, file_with, sealing, values, accepted, plan, script_operand, checked, accepted_or_noisy, bound_at, plan_of_form, plan_of_secret, plan_of_public, plan_of_encrypt, plan_of_decrypt, operand, matching, set_operand, seed_operand, values_operand, seed_word, and_then, out_name, IsReached, IsWritten}
+use Rattle.command_model.specs.Plan.{Output, file_with, sealing, running, values, accepted, plan, script_operand, checked, accepted_or_noisy, bound_at, plan_of_form, plan_of_secret, plan_of_public, plan_of_encrypt, plan_of_decrypt, operand, matching, set_operand, seed_operand, values_operand, seed_word, and_then, out_name, IsReached, IsWritten}
+use Rattle.command_model.specs.Bindings.{bound_names}
 use Rattle.command_model.specs.Answers.{AreLeft, IsFault, Told}
 use Rattle.bfv_commands.specs.Stages.{Announced, AreWritten, IsLeftToPut, IsMade}
+use Rattle.bfv_commands.proofs.Steps.{both_steps}
+use Rattle.bfv_commands.proofs.RunPlans.{planned_run, run_of}
 
 -- ---- what a planned output says of the operands
--- where two steps lead to a value, the first one did
-both_steps : {A B E : Type 0} (first : Result A E) (next : A → Result B E) (value : B) → and_then first next ≡ Ok value
-    → (middle : A) × ((first ≡ Ok middle) × (next middle ≡ Ok value))
-both_steps (Ok middle) next value is = (middle, (refl, is))
-both_steps (Err error) next value is = absurd (cc)
-
 pub record PlannedSecret (words : List (List ℕ)) (files : Files) (output : Output) : Type 0 where
   pub set : SetName
   pub seed : List ℕ
@@ -161,6 +158,9 @@ made_written (Some form.Check) words files output is bytes =
     let script = both_steps (script_operand words files 1) checked output is in
     let bound = checked_bound script.0 output script.1.1 in
     written_as output (accepted bound.0) bytes bound.1 (λ made. made)
+made_written (Some form.Run) words files output is bytes =
+    let p = planned_run words files output is in
+    written_as output (running (run_of p.script (bound_names words) p.operands p.bounds)) bytes p.output_is (λ made. made.is)
 made_written (Some form.Decrypt) words files output is bytes =
     let p = planned_values words files output is in
     written_as output (values p.secret p.cipher) bytes p.output_is (λ made. made.text)

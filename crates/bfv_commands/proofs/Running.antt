@@ -1,5 +1,5 @@
 -- From the stages of a command that writes a file to how it ran.
-use Rattle.std.proofs.Common.{◌≡◌, ◌≢◌, ◌⊎◌, inl, ℕ, List, sym, subst, ap, ◌∙◌, refl, le_refl}
+use Rattle.std.proofs.Common.{◌≡◌, ◌≢◌, ◌⊎◌, inl, ℕ, ◌-◌, List, sym, subst, ap, ◌∙◌, refl, le_refl}
 use Rattle.std.specs.Prelude.{Option, Some, Result, Ok, Err, IsOk}
 use Rattle.outer_io.specs.Store.{Files, StoreState, OnlyReads, OnlyWrites, Rose, with_file}
 use Rattle.outer_io.specs.declared.faults.StoreFault.{StoreFault}
@@ -8,9 +8,11 @@ use Rattle.command_words.specs.declared.form.Form.{Form}
 use Rattle.command_words.specs.declared.form.Form.TheVariants as form
 use Rattle.command_words.specs.declared.status.Status.{Status}
 use Rattle.command_words.specs.declared.status.Status.TheVariants.{Memory, ReadFault, WriteFault}
-use Rattle.command_model.specs.Plan.{Output, plan_of_form, out_name, IsReached}
+use Rattle.command_model.specs.Bindings.{bindings_of}
+use Rattle.command_model.specs.Plan.{Output, plan_of_form, plan_of_run, out_name, IsReached, IsBindingReached}
 use Rattle.command_model.specs.Answers.{IsFault}
 use Rattle.bfv_commands.specs.Stages.{AreWritten, IsMade, Ran, Wrote, Caused, write_status}
+use Rattle.bfv_commands.proofs.RunPlans.{planned_run, operands_of_front}
 use Rattle.bfv_commands.proofs.Outputs.{planned_public_key, planned_cipher, planned_values}
 
 -- a command that is refused, or couldn't read a file, before it writes
@@ -20,6 +22,18 @@ pub ran_refused : {T : Type 0} (form : Form) (words : List (List ℕ)) (before :
 ran_refused form words before after status reads why reached =
     record { ok = tt; err = why; write_fault = λ writes. absurd (reads writes); read_fault = reached }
 
+-- where `run` isn't refused, every bound file is reached
+binding_reached : (words : List (List ℕ)) (before : Files) (output : Output) → plan_of_run words before ≡ Ok output → (word : ℕ) → IsBindingReached words before word
+binding_reached words before output is word =
+    let p = planned_run words before output is in
+    record {
+      script = p.script;
+      read = p.script_is;
+      built = p.built;
+      well_bound = p.well_bound;
+      before = operands_of_front p.script before 3 (bindings_of words) p.operands p.taken (word - 3);
+    }
+
 -- where nothing is refused, every operand is reached
 pub reached_planned : (form : Form) (words : List (List ℕ)) (before : Files) (output : Output) → plan_of_form (Some form) words before ≡ Ok output → (word : ℕ)
     → IsReached (Some form) words before word
@@ -28,6 +42,7 @@ reached_planned form.Public words before output is word = let p = planned_public
 reached_planned form.Encrypt words before output is word =
     let p = planned_cipher words before output is in
     (λ _. subst IsOk (sym p.public_is) refl, λ _. subst IsOk (sym p.seed_is) refl)
+reached_planned form.Run words before output is word = λ _. binding_reached words before output is word
 reached_planned form.Decrypt words before output is word = let p = planned_values words before output is in λ _. subst IsOk (sym p.secret_is) refl
 reached_planned form.Check words before output is word = tt
 
@@ -66,6 +81,7 @@ memory_caused IsNamed old new = record {
   write = λ fault. absurd (cc);
   missing = λ word fault. absurd (cc);
   word = λ word at. absurd (cc);
+  binding = λ word at whole. absurd (cc);
 }
 
 -- where nothing happens, files are only read
@@ -84,4 +100,5 @@ caused_by_write IsNamed old mid new store.Failed reads keeps = record {
   write = λ _. subst (λ (before : ℕ). Rose before new.write_faults) reads.write_faults (keeps.failed refl);
   missing = λ word fault. absurd (cc);
   word = λ word at. absurd (cc);
+  binding = λ word at whole. absurd (cc);
 }

@@ -1,13 +1,10 @@
 -- A command that is done takes the files to what the plain machine steps to.
 use Rattle.std.proofs.Common.{◌≡◌, ℕ, List, refl, sym, ◌∙◌, ap, subst}
-use Rattle.std.specs.Prelude.{Bool, true, false, ◌&&◌, ◌==◌, if◌then◌else◌, length, Option, Some, None, option_and_then, Result, Ok}
-use Rattle.std.specs.Str.{bytes_eq}
+use Rattle.std.specs.Prelude.{Bool, true, false, if◌then◌else◌, length, Option, Some, None, option_and_then, Result, Ok}
 use Rattle.std.specs.FinMap as map
-use Rattle.std.proofs.lemmas.Slice.Eq.{bytes_eq-Decides}
-use Rattle.std.proofs.lemmas.Bool.{eqb-true, and_parts}
 use Rattle.outer_io.specs.Store.{Files}
 use Rattle.set_table.specs.declared.SetName.{SetName}
-use Rattle.set_table.specs.Sets.{number_of, degree_of, plain_of, data_of}
+use Rattle.set_table.specs.Sets.{degree_of, plain_of, data_of}
 use Rattle.ring_law.specs.Rows.{natural_polynomial}
 use Rattle.script_text.specs.Values.{printed_values}
 use Rattle.bound_num.specs.Bound.{bound_value}
@@ -18,28 +15,24 @@ use Rattle.bfv_model.specs.DrawnFiles.{drawn_secret_file, drawn_public_file}
 use Rattle.bfv_model.specs.Holds.{CipherHolds, stored_word, secret_polynomial}
 use Rattle.bfv_model.specs.Slots.{slots_of}
 use Rattle.bfv_model.proofs.Rules.{cipher_bound-room}
-use Rattle.bfv_model.proofs.Files.{number_of-once}
 use Rattle.cipher_files.specs.declared.head.Wanted.TheVariants as wanted
 use Rattle.command_words.specs.Form.{form_of}
 use Rattle.command_words.specs.Line.{word_at}
 use Rattle.command_words.specs.declared.form.Form.{Form}
 use Rattle.command_words.specs.declared.form.Form.TheVariants as form
 use Rattle.command_words.specs.declared.status.Status.{Status}
-use Rattle.command_model.specs.Plan.{Output, file_with, sealing, values, plan_of_form, operand, out_name, seed_word}
+use Rattle.command_model.specs.Plan.{Output, file_with, sealing, running, values, plan_of_form, operand, out_name, seed_word}
+use Rattle.command_model.specs.Bindings.{bound_names}
 use Rattle.command_model.specs.Plain.{Owner, Item, text, secret_of, sealed, drawn, State, Stands, IsItem, IsSecretOf, IsSealed, opened, same_owner, item_made, with_item, with_item_at, step, step_of_form}
 use Rattle.command_model.proofs.Standing.{stands_with}
 use Rattle.bfv_commands.specs.Stages.{AreWritten, IsMade, IsDecryption}
+use Rattle.bfv_commands.proofs.Owners.{same_owner_equal}
+use Rattle.bfv_commands.proofs.RunPlans.{planned_run, run_of}
+use Rattle.bfv_commands.proofs.RunItems.{item_ran}
 use Rattle.bfv_commands.proofs.Outputs.{planned_secret, planned_public_key, planned_cipher, planned_values}
 use Rattle.bfv_commands.proofs.MadeItems.{operand_content, belongs_wanted, item_drawn, item_published, item_sealed}
 
 -- ---- opened values
--- owners that pass the test of being one have one set and one secret
-same_owner_is : (a b : Owner) → same_owner a b ≡ true → (a.set ≡ b.set) × (a.secret ≡ b.secret)
-same_owner_is a b same =
-    let outer = and_parts (number_of a.set == number_of b.set) (bytes_eq a.key_id b.key_id && bytes_eq a.secret b.secret) same in
-    let inner = and_parts (bytes_eq a.key_id b.key_id) (bytes_eq a.secret b.secret) outer.1 in
-    (number_of-once a.set b.set (eqb-true (number_of a.set) (number_of b.set) outer.0), (bytes_eq-Decides a.secret b.secret).0 inner.1)
-
 -- the bytes that are made of a sealed cipher under its owner's secret are the printed values that it seals
 sealed_values : (owner : Owner) (vs : List ℕ) (secret cipher : FileContent) (bytes made : List ℕ) → IsFile bytes cipher → IsSealed owner vs cipher → secret.words ≡ owner.secret
     → IsDecryption secret cipher made → made ≡ printed_values vs
@@ -84,7 +77,7 @@ item_opened words files state secret cipher bytes item stands secret_is cipher_i
     let source = operand_content words files wanted.Cipher 2 cipher (IsSealed o.other o.sealed_values) (λ held s. belongs_wanted wanted.Cipher o.other Cipher held refl s.belongs) cipher_is
     (stands.each (word_at words 2) (sealed o.other o.sealed_values) o.cipher_is) in
     subst (λ (i : Item). IsItem i bytes) (sym o.item_is)
-    (sealed_values o.other o.sealed_values secret cipher source.bytes bytes source.is_file source.is (key.is.words ∙ (same_owner_is o.owner o.other o.same).1) made)
+    (sealed_values o.other o.sealed_values secret cipher source.bytes bytes source.is_file source.is (key.is.words ∙ ap (λ (owner : Owner). owner.secret) (same_owner_equal o.owner o.other o.same)) made)
 
 -- ---- a command that is done
 -- what is made for an output is made for the one that its operands say
@@ -108,6 +101,10 @@ item_of_output form.Encrypt words files state output bytes item stands planned m
     item_sealed words files state p.public p.listed p.seed bytes item stands p.public_is p.listed_is
     (made_as output (sealing p.public p.listed p.seed) bytes p.output_is made) is
 item_of_output form.Check words files state output bytes item stands planned made is = absurd (cc)
+item_of_output form.Run words files state output bytes item stands planned made is =
+    let p = planned_run words files output planned in
+    item_ran words files state output bytes item stands p
+    (made_as output (running (run_of p.script (bound_names words) p.operands p.bounds)) bytes p.output_is made) is
 item_of_output form.Decrypt words files state output bytes item stands planned made is =
     let p = planned_values words files output planned in
     item_opened words files state p.secret p.cipher bytes item stands p.secret_is p.cipher_is

@@ -9,25 +9,37 @@ use Rattle.cipher_files.specs.declared.head.Head.{Head}
 use Rattle.cipher_files.specs.declared.head.Wanted.{Wanted}
 use Rattle.command_words.specs.Line.{word_at}
 use Rattle.command_words.specs.declared.status.Status.{Status}
-use Rattle.command_model.specs.Plan.{operand}
+use Rattle.command_model.specs.Plan as plan
 use Rattle.command_model.specs.Answers.{IsFault}
 
--- the file that a word names has this content, and the head states it
-pub record HasContent (words : List (List ℕ)) (files : Files) (word : ℕ) (head : Head) (content : FileContent) : Type 0 where
-  pub there : file files (word_at words word) ≡ Some (contents files (word_at words word))
-  pub is_file : IsFile (contents files (word_at words word)) content
+-- the file of this name has this content, and the head states it
+pub record HasContentAt (files : Files) (name : List ℕ) (head : Head) (content : FileContent) : Type 0 where
+  pub there : file files name ≡ Some (contents files name)
+  pub is_file : IsFile (contents files name) content
   pub head_is : IsHeadOf head content
 
--- the head is that of the content which is taken of the file that a word names
-pub record IsScanned (words : List (List ℕ)) (files : Files) (wanted : Wanted) (word : ℕ) (head : Head) : Type 0 where
-  pub content : FileContent
-  pub taken : operand words files wanted word ≡ Ok content
-  pub held : HasContent words files word head content
+-- the file that a word names has this content, and the head states it
+abbrev pub HasContent : List (List ℕ) → Files → ℕ → Head → FileContent → Type 0
+HasContent words files word head content = HasContentAt files (word_at words word) head content
 
--- a file was scanned, or is refused as planned, or the answer is one that no word and no file brings about
-pub record Scanned (words : List (List ℕ)) (files : Files) (wanted : Wanted) (word : ℕ) (result : Result Head Status) : Type 0 where
-  pub ok : IfOk result (λ head. IsScanned words files wanted word head)
-  pub err : IfErr result (λ status. IsFault status ⊎ (operand words files wanted word ≡ Err status))
+-- the head is that of the content which is taken of the file of this name
+pub record IsScannedAt (files : Files) (name : List ℕ) (wanted : Wanted) (word : ℕ) (head : Head) : Type 0 where
+  pub content : FileContent
+  pub taken : plan.taken wanted word (file files name) ≡ Ok content
+  pub held : HasContentAt files name head content
+
+-- the head is that of the content which is taken of the file that a word names
+abbrev pub IsScanned : List (List ℕ) → Files → Wanted → ℕ → Head → Type 0
+IsScanned words files wanted word head = IsScannedAt files (word_at words word) wanted word head
+
+-- the file of this name was scanned, or is refused as planned, or the answer is one that no word and no file brings about
+pub record ScannedAt (files : Files) (name : List ℕ) (wanted : Wanted) (word : ℕ) (result : Result Head Status) : Type 0 where
+  pub ok : IfOk result (λ head. IsScannedAt files name wanted word head)
+  pub err : IfErr result (λ status. IsFault status ⊎ (plan.taken wanted word (file files name) ≡ Err status))
+
+-- the same of the file that a word names
+abbrev pub Scanned : List (List ℕ) → Files → Wanted → ℕ → Result Head Status → Type 0
+Scanned words files wanted word result = ScannedAt files (word_at words word) wanted word result
 
 -- what a stage gives behind the last refusal: a value with this property, or an answer that no word and no file brings about
 pub record Gives {T : Type 0} (result : Result T Status) (P : T → Type 0) : Type 0 where

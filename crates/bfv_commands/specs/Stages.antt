@@ -1,5 +1,5 @@
 -- What the stages of a command say of their results.
-use Rattle.std.specs.Prelude.{◌≡◌, ◌≢◌, ◌⊎◌, ℕ, ◌*◌, ◌≤◌, List, length, take, Option, Some, None, Result, Ok, Err, OnOk, IfOk, IfErr, IsOk}
+use Rattle.std.specs.Prelude.{◌≡◌, ◌≢◌, ◌⊎◌, ℕ, ◌*◌, ◌≤◌, true, List, length, take, Option, Some, None, Result, Ok, Err, OnOk, IfOk, IfErr, IsOk}
 use Rattle.std.specs.FinMap as map
 use Rattle.outer_io.specs.Store.{Files, StoreState, Rose}
 use Rattle.outer_io.specs.Sink.{SinkState, grown}
@@ -17,8 +17,13 @@ use Rattle.bfv_model.specs.FileText.{FileContent, file_text}
 use Rattle.bfv_model.specs.Holds.{CipherHolds, stored_word, secret_polynomial}
 use Rattle.bfv_model.specs.Slots.{slots_of}
 use Rattle.script_text.specs.Values.{printed_values}
-use Rattle.command_model.specs.Plan.{IsReached, IsFreshCipher, IsValuesText, Output, file_with, sealing, values, accepted, plan_of_form, out_name}
+use Rattle.script_text.specs.Scripts.{IsSound}
+use Rattle.script_text.specs.Value.{value_of}
+use Rattle.command_model.specs.Bindings.{Run}
+use Rattle.command_model.specs.Plain.{Owner, IsSealed}
+use Rattle.command_model.specs.Plan.{IsReached, IsFreshCipher, IsRunFile, IsValuesText, Output, file_with, sealing, running, values, accepted, plan_of_form, out_name}
 use Rattle.command_model.specs.Answers.{IsFault, IsOutputLine}
+use Rattle.bfv_commands.specs.BoundFiles.{AreSealed}
 
 -- a result is the planned one, or an answer that no word and no file brings about
 pub record Planned {A B : Type 0} (planned : Result A Status) (view : B → A) (result : Result B Status) : Type 0 where
@@ -34,10 +39,18 @@ pub record IsDecryption (secret cipher : FileContent) (bytes : List ℕ) : Type 
       (stored_word (degree_of cipher.set) (length (data_of cipher.set)) cipher.words) (secret_polynomial secret.words) m bound
       → 4 * bound ≤ product (data_of cipher.set) → bytes ≡ printed_values (slots_of cipher.set (natural_polynomial m))
 
--- what is made for an output: as determined, and for a decryption as the plaintext determines it
+-- the bytes are the file of the cipher that a run gives: as determined, and where the inputs seal values for an owner, a cipher that
+-- seals the script's value on these for the owner
+pub record IsRunOf (run : Run) (bytes : List ℕ) : Type 0 where
+  pub is : IsRunFile run bytes
+  pub sound : IsSound run.script
+  pub right : (owner : Owner) (lists : List (List ℕ)) → AreSealed owner run.script run.ciphers run.plains lists → IsSealed owner (value_of run.script lists) is.content
+
+-- what is made for an output: as determined, for a decryption as the plaintext determines it, and for a run as the inputs do
 abbrev pub IsMade : Output → List ℕ → Type 0
 IsMade (file_with content) bytes = bytes ≡ file_text content
 IsMade (sealing public listed seed) bytes = IsFreshCipher public listed seed bytes
+IsMade (running run) bytes = IsRunOf run bytes
 IsMade (values secret cipher) bytes = IsDecryption secret cipher bytes
 IsMade (accepted bound) bytes = bytes ≡ accepted_text bound
 
@@ -60,6 +73,7 @@ pub record Caused (IsNamed : ℕ → Type 0) (old new : StoreState) (status : St
   pub write : status ≡ WriteFault → Rose old.write_faults new.write_faults
   pub missing : (word : ℕ) → status ≡ MissingFile word → Rose old.misses new.misses
   pub word : (word : ℕ) → (parts_of status).word ≡ Some word → IsNamed word
+  pub binding : (word : ℕ) → (parts_of status).word ≡ Some word → (parts_of status).whole ≡ true → 3 ≤ word
 
 -- what a command that isn't refused leaves to be put: nothing where it wrote the file OUT, and else the line of its output
 abbrev pub IsLeftToPut : Option (List ℕ) → List (List ℕ) → Option Files → Option (List ℕ) → Type 0

@@ -3,7 +3,7 @@ ghost use Rattle.std.specs.Prelude.{◌≡◌, ◌≢◌, ◌⊎◌, ◌<◌, le
 ghost use Rattle.std.specs.Option.{ForSome, option_map};
 ghost use Rattle.std.specs.String.{string_bytes};
 ghost use Rattle.outer_io.specs.Store.{Files};
-ghost use Rattle.command_words.specs.Form.{form_of, IsOperand, word_count};
+ghost use Rattle.command_words.specs.Form.{form_of, IsOperand, HasCount};
 ghost use Rattle.command_words.specs.Status.{parts_of};
 ghost use Rattle.command_model.specs.Plan as plan;
 ghost use Rattle.command_model.specs.Answers.{Told, NoFaultRose, IsComplete, Cause, Printed};
@@ -14,6 +14,7 @@ use crate::check::check;
 use crate::decrypt::decrypt;
 use crate::encrypt::encrypt;
 use crate::public::public;
+use crate::run_script::run_script;
 use crate::secret::secret;
 use command_words::{Form, Status, form_of, put_line};
 use outer_io::{Sink, SinkFault, Store};
@@ -67,14 +68,14 @@ fn run<S: Store>(
     store: &mut S,
 ) -> Result<Option<Vec<u8>>, Status>
     requires form { form_of (map string_bytes words.now) ≡ Some form }
-    requires count { length words.now ≡ word_count form }
+    requires count { HasCount form (length words.now) }
     requires idle { (S.state store.old).pending ≡ None }
     ensures idle { (S.state store.new).pending ≡ None }
     ensures told { ForSome (S.state store.old).files (λ files. Ran form (map string_bytes words.now) files (S.state store.new).files result) }
     ensures line { IfOk result (λ left. IsLeftToPut (plan.out_name (Some form) (map string_bytes words.now)) (map string_bytes words.now)
         (S.state store.old).files (option_map (λ v. v.items) left)) }
     ensures unchanged { OnErr result ((S.state store.new).files ≡ (S.state store.old).files) }
-    ensures cause { IfErr result (λ s. Caused (IsOperand form) (S.state store.old) (S.state store.new) s) }
+    ensures cause { IfErr result (λ s. Caused (IsOperand form (length (map string_bytes words.now))) (S.state store.old) (S.state store.new) s) }
     ensures file { IfErr result (λ s. s ≡ Status.WriteFault → IsSome (plan.out_name (Some form) (map string_bytes words.now))) }
 {
     match form {
@@ -82,7 +83,7 @@ fn run<S: Store>(
             Ok(line) => Ok(Some(line)),
             Err(status) => Err(status),
         },
-        Form::Secret | Form::Public | Form::Encrypt | Form::Decrypt => {
+        Form::Secret | Form::Public | Form::Encrypt | Form::Run | Form::Decrypt => {
             match write_out(alloc, form, words, store) {
                 Ok(()) => Ok(None),
                 Err(status) => Err(status),
@@ -99,18 +100,19 @@ fn write_out<S: Store>(
     store: &mut S,
 ) -> Result<(), Status>
     requires form { form_of (map string_bytes words.now) ≡ Some form }
-    requires count { length words.now ≡ word_count form }
+    requires count { HasCount form (length words.now) }
     requires out { IsSome (plan.out_name (Some form) (map string_bytes words.now)) }
     requires idle { (S.state store.old).pending ≡ None }
     ensures idle { (S.state store.new).pending ≡ None }
     ensures told { ForSome (S.state store.old).files (λ files. Ran form (map string_bytes words.now) files (S.state store.new).files result) }
     ensures unchanged { OnErr result ((S.state store.new).files ≡ (S.state store.old).files) }
-    ensures cause { IfErr result (λ s. Caused (IsOperand form) (S.state store.old) (S.state store.new) s) }
+    ensures cause { IfErr result (λ s. Caused (IsOperand form (length (map string_bytes words.now))) (S.state store.old) (S.state store.new) s) }
 {
     match form {
         Form::Secret => secret(alloc, words, store),
         Form::Public => public(alloc, words, store),
         Form::Encrypt => encrypt(alloc, words, store),
+        Form::Run => run_script(alloc, words, store),
         Form::Decrypt => decrypt(alloc, words, store),
         Form::Check => unreachable!(),
     }

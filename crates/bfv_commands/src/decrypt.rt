@@ -40,7 +40,7 @@ pub fn decrypt<S: Store>(alloc: Global, words: &[String], store: &mut S) -> Resu
     ensures idle { (S.state store.new).pending ≡ None }
     ensures told { ForSome (S.state store.old).files (λ files. Ran form.Decrypt (map string_bytes words.now) files (S.state store.new).files result) }
     ensures unchanged { OnErr result ((S.state store.new).files ≡ (S.state store.old).files) }
-    ensures cause { IfErr result (λ s. Caused (IsOperand form.Decrypt) (S.state store.old) (S.state store.new) s) }
+    ensures cause { IfErr result (λ s. Caused (IsOperand form.Decrypt 4) (S.state store.old) (S.state store.new) s) }
 {
     let secret = match scan_operand(store, words, Wanted::Secret, 1) {
         Ok(secret) => secret,
@@ -83,7 +83,7 @@ fn opened_text<S: Store>(
         → HasContent (map string_bytes words.now) files 1 secret.now a
         → HasContent (map string_bytes words.now) files 2 cipher.now b
         → Gives result (λ text. IsDecryption a b text.items)) }
-    ensures cause { IfErr result (λ s. Caused (IsOperand form.Decrypt) (S.state store.old) (S.state store.new) s) }
+    ensures cause { IfErr result (λ s. Caused (IsOperand form.Decrypt 4) (S.state store.old) (S.state store.new) s) }
     ensures reads { IfErr result (λ s. s ≢ Status.WriteFault) }
 {
     match secret.set {
@@ -116,7 +116,7 @@ fn text_of_degree<S: Store, const N: usize>(
         → HasContent (map string_bytes words.now) files 1 secret.now a
         → HasContent (map string_bytes words.now) files 2 cipher.now b
         → Gives result (λ text. IsDecryption a b text.items)) }
-    ensures cause { IfErr result (λ s. Caused (IsOperand form.Decrypt) (S.state store.old) (S.state store.new) s) }
+    ensures cause { IfErr result (λ s. Caused (IsOperand form.Decrypt 4) (S.state store.old) (S.state store.new) s) }
     ensures reads { IfErr result (λ s. s ≢ Status.WriteFault) }
 {
     let Ok(ctx) = Context::<N>::new(alloc, secret.set) else {

@@ -42,7 +42,7 @@ pub fn encrypt<S: Store>(alloc: Global, words: &[String], store: &mut S) -> Resu
     ensures idle { (S.state store.new).pending ≡ None }
     ensures told { ForSome (S.state store.old).files (λ files. Ran form.Encrypt (map string_bytes words.now) files (S.state store.new).files result) }
     ensures unchanged { OnErr result ((S.state store.new).files ≡ (S.state store.old).files) }
-    ensures cause { IfErr result (λ s. Caused (IsOperand form.Encrypt) (S.state store.old) (S.state store.new) s) }
+    ensures cause { IfErr result (λ s. Caused (IsOperand form.Encrypt 5) (S.state store.old) (S.state store.new) s) }
 {
     let public = match scan_operand(store, words, Wanted::Public, 1) {
         Ok(public) => public,

@@ -3,12 +3,19 @@
 #![tactic(auto)]
 
 mod answer;
+mod bindings;
+mod bound_files;
 mod check;
 mod decrypt;
 mod encrypt;
+mod execution;
+mod matching;
 mod operand;
+mod ordering;
 mod public;
 mod reread;
+mod run_output;
+mod run_script;
 mod scanned;
 mod secret;
 mod seed;

@@ -2,7 +2,7 @@
 ghost use Rattle.std.specs.Prelude.{◌≡◌, ◌≢◌, ◌⊎◌, ◌<◌, length, map, Some, Ok, Err, IfOk, IfErr};
 ghost use Rattle.std.specs.Option.{ForSome};
 ghost use Rattle.std.specs.String.{string_bytes};
-ghost use Rattle.outer_io.specs.Store.{OnlyReads};
+ghost use Rattle.outer_io.specs.Store.{OnlyReads, file};
 ghost use Rattle.script_text.specs.declared.faults.ValuePlace.{ValuePlace};
 ghost use Rattle.script_text.specs.declared.faults.ScriptPlace.{ScriptPlace};
 ghost use Rattle.command_words.specs.Line.{word_at};
@@ -46,7 +46,26 @@ pub fn read_values_operand<S: Store>(
     ensures reads { IfErr result (λ s. s ≢ Status.WriteFault) }
     ensures values { IfOk result (λ v. AreValues set v.items) }
 {
-    match read_front(alloc, store, name_of(words, word), VALUES_LIMIT) {
+    read_values_named(alloc, store, name_of(words, word), set, word)
+}
+
+/// The values in the text of a name, as many as a set has slots. The word of this number gives the
+/// name.
+pub fn read_values_named<S: Store>(
+    alloc: Global,
+    store: &mut S,
+    name: &str,
+    set: SetName,
+    word: u32,
+) -> Result<Vec<u64>, Status>
+    ensures keeps { OnlyReads (S.state store.old) (S.state store.new) }
+    ensures told { ForSome (S.state store.old).files (λ files.
+        Planned (plan.taken_values set word (file files name.now)) (λ v. v.items) result) }
+    ensures cause { IfErr result (λ s. Caused (λ w. w ≡ word) (S.state store.old) (S.state store.new) s) }
+    ensures reads { IfErr result (λ s. s ≢ Status.WriteFault) }
+    ensures values { IfOk result (λ v. AreValues set v.items) }
+{
+    match read_front(alloc, store, name, VALUES_LIMIT) {
         Ok(text) => take_values(alloc, &text, set, word),
         Err(StoreFault::Missing) => Err(Status::MissingFile { word }),
         Err(StoreFault::Failed) => Err(Status::ReadFault { word }),

@@ -43,7 +43,7 @@ pub fn public<S: Store>(alloc: Global, words: &[String], store: &mut S) -> Resul
     ensures idle { (S.state store.new).pending ≡ None }
     ensures told { ForSome (S.state store.old).files (λ files. Ran form.Public (map string_bytes words.now) files (S.state store.new).files result) }
     ensures unchanged { OnErr result ((S.state store.new).files ≡ (S.state store.old).files) }
-    ensures cause { IfErr result (λ s. Caused (IsOperand form.Public) (S.state store.old) (S.state store.new) s) }
+    ensures cause { IfErr result (λ s. Caused (IsOperand form.Public 4) (S.state store.old) (S.state store.new) s) }
 {
     let secret = match scan_operand(store, words, Wanted::Secret, 1) {
         Ok(secret) => secret,

@@ -6,7 +6,7 @@ ghost use Rattle.outer_io.specs.Store.{StoreState, OnlyReads};
 ghost use Rattle.bfv_model.specs.FileText.{FileContent};
 ghost use Rattle.cipher_files.specs.Heads.{HeadKeepsRules, IsHeadOf, wants};
 ghost use Rattle.command_model.specs.Plan as plan;
-ghost use Rattle.bfv_commands.specs.Operands.{Scanned};
+ghost use Rattle.bfv_commands.specs.Operands.{Scanned, ScannedAt};
 ghost use Rattle.bfv_commands.specs.Stages.{Caused};
 
 use crate::operand::name_of;
@@ -28,7 +28,24 @@ pub fn scan_operand<S: Store>(
     ensures reads { IfErr result (λ s. s ≢ Status.WriteFault) }
     ensures rules { IfOk result (λ head. HeadKeepsRules head × (wants wanted head.kind ≡ true)) }
 {
-    match scan(store, name_of(words, word), wanted) {
+    scan_named(store, name_of(words, word), wanted, word)
+}
+
+/// The head of the file of a name, where it is a file of a wanted kind. The word of this number
+/// gives the name.
+pub fn scan_named<S: Store>(
+    store: &mut S,
+    name: &str,
+    wanted: Wanted,
+    word: u32,
+) -> Result<Head, Status>
+    ensures keeps { OnlyReads (S.state store.old) (S.state store.new) }
+    ensures told { ForSome (S.state store.old).files (λ files. ScannedAt files name.now wanted word result) }
+    ensures cause { IfErr result (λ s. Caused (λ w. w ≡ word) (S.state store.old) (S.state store.new) s) }
+    ensures reads { IfErr result (λ s. s ≢ Status.WriteFault) }
+    ensures rules { IfOk result (λ head. HeadKeepsRules head × (wants wanted head.kind ≡ true)) }
+{
+    match scan(store, name, wanted) {
         Ok(head) => Ok(head),
         Err(fault) => Err(status_of(word, fault)),
     }

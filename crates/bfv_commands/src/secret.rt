@@ -34,7 +34,7 @@ pub fn secret<S: Store>(alloc: Global, words: &[String], store: &mut S) -> Resul
     ensures idle { (S.state store.new).pending ≡ None }
     ensures told { ForSome (S.state store.old).files (λ files. Ran form.Secret (map string_bytes words.now) files (S.state store.new).files result) }
     ensures unchanged { OnErr result ((S.state store.new).files ≡ (S.state store.old).files) }
-    ensures cause { IfErr result (λ s. Caused (IsOperand form.Secret) (S.state store.old) (S.state store.new) s) }
+    ensures cause { IfErr result (λ s. Caused (IsOperand form.Secret 4) (S.state store.old) (S.state store.new) s) }
 {
     let Some(set) = set_named(name_of(words, 1)) else {
         unreachable!()

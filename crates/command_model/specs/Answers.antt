@@ -1,5 +1,5 @@
 -- What every answer of the top call keeps: the clauses of its contract.
-use Rattle.std.specs.Prelude.{◌≡◌, ◌≢◌, ◌⊎◌, ℕ, List, Option, Some, None, Result, Ok, Err, IsOk, take}
+use Rattle.std.specs.Prelude.{◌≡◌, ◌≢◌, ◌⊎◌, ℕ, ◌≤◌, true, List, length, Option, Some, None, Result, Ok, Err, IsOk, take}
 use Rattle.std.specs.Option.{ForSome}
 use Rattle.std.specs.FinMap as map
 use Rattle.outer_io.specs.Store.{Files, StoreState, Rose}
@@ -54,10 +54,10 @@ abbrev pub IsComplete : Result Output Status → Status → Type 0
 IsComplete (Ok output) answer = (answer ≡ Done) ⊎ (answer ≡ Memory)
 IsComplete (Err refusal) answer = (answer ≡ refusal) ⊎ (answer ≡ Memory)
 
--- no word names a file operand where the words have no form
-abbrev pub IsOperandOf : Option Form → ℕ → Type 0
-IsOperandOf None word = ⊥
-IsOperandOf (Some form) word = IsOperand form word
+-- the word of this number, of so many, names a file operand; none does where the words have no form
+abbrev pub IsOperandOf : Option Form → ℕ → ℕ → Type 0
+IsOperandOf None count word = ⊥
+IsOperandOf (Some form) count word = IsOperand form count word
 
 -- a fault of writing is one of the store where there is a file OUT, and else one of the sink
 abbrev pub WriteRose : Option (List ℕ) → StoreState → StoreState → SinkState → SinkState → Type 0
@@ -73,8 +73,9 @@ pub record Cause (words : List (List ℕ)) (old new : StoreState) (old_sink new_
   pub read : (word : ℕ) → answer ≡ ReadFault word → Rose old.faults new.faults
   pub write : answer ≡ WriteFault → WriteRose (out_name (form_of words) words) old new old_sink new_sink
   pub missing : (word : ℕ) → answer ≡ MissingFile word → Rose old.misses new.misses
-  -- a word that the answer keeps names a file operand
-  pub word : (word : ℕ) → (parts_of answer).word ≡ Some word → IsOperandOf (form_of words) word
+  -- a word that the answer keeps names a file operand, and one that is told whole is a binding
+  pub word : (word : ℕ) → (parts_of answer).word ≡ Some word → IsOperandOf (form_of words) (length words) word
+  pub binding : (word : ℕ) → (parts_of answer).word ≡ Some word → (parts_of answer).whole ≡ true → 3 ≤ word
 
 -- the line of an output, which a command without a file OUT prints: that of an accepted script. Where the store tells its files, it is
 -- the planned one.

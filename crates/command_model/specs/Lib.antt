@@ -1,3 +1,4 @@
+pub mod Bindings
 pub mod Plan
 pub mod Answers
 pub mod Plain

@@ -1,5 +1,7 @@
 -- The plain machine: what files stand for, and what a command does to that. Nothing of noise, residues or keys is in a plain state.
-use Rattle.std.specs.Prelude.{◌≡◌, ℕ, ◌<◌, ◌^◌, Bool, ◌&&◌, ◌==◌, if◌then◌else◌, ℤ, List, length, map, All, Option, Some, None, Result, Ok, Err, option_and_then, unwrap_or}
+use Rattle.std.specs.Prelude.{◌≡◌, ℕ, ◌<◌, ◌^◌, Bool, ◌&&◌, ◌==◌, if◌then◌else◌, ◌+◌, ℤ, List, [], ◌∷◌, length, map, slice_get, All, Option, Some, None, Result, Ok, Err, option_and_then, unwrap_or}
+use Rattle.std.specs.Option.{option_map}
+use Rattle.std.specs.Result.{result_ok}
 use Rattle.std.specs.Str.{bytes_eq}
 use Rattle.outer_io.specs.Store.{Files, file}
 use Rattle.set_table.specs.declared.SetName.{SetName}
@@ -19,12 +21,19 @@ use Rattle.bfv_model.specs.Keys.{WordsArePublicKeyOf, WordsAreSwitchKeyOf, store
 use Rattle.ring_law.specs.Rows.{natural_polynomial}
 use Rattle.bfv_model.specs.Slots.{slots_of}
 use Rattle.script_text.specs.declared.faults.ValuePlace.{ValuePlace}
+use Rattle.script_text.specs.declared.script.Input.{Input}
+use Rattle.script_text.specs.declared.script.InputKind.{InputKind}
+use Rattle.script_text.specs.declared.script.InputKind.TheVariants as input
 use Rattle.script_text.specs.Reading.{values_of}
+use Rattle.script_text.specs.Scripts.{Script, cipher_inputs}
+use Rattle.script_text.specs.Grammar.{script_of}
+use Rattle.script_text.specs.Value.{value_of}
 use Rattle.script_text.specs.Values.{printed_values}
-use Rattle.command_words.specs.Form.{form_of, set_named}
+use Rattle.command_words.specs.Form.{form_of, set_named, binding_file}
 use Rattle.command_words.specs.Line.{word_at}
 use Rattle.command_words.specs.declared.form.Form.{Form}
 use Rattle.command_words.specs.declared.form.Form.TheVariants as form
+use Rattle.command_model.specs.Bindings.{bound_names, place_bound}
 use Rattle.command_model.specs.Plan.{seed_word, out_name}
 
 -- whose secret: the set, the key id, and the n coefficients as words, with 2 for -1
@@ -84,11 +93,49 @@ abbrev pub opened : Option Item → Option Item → Option Item
 opened (Some (secret_of owner)) (Some (sealed other values)) = if same_owner owner other then Some (text (printed_values values)) else None
 opened _ _ = None
 
+-- the item of the file that the words of `run` bind to an input
+abbrev pub item_bound : List (List ℕ) → State → Input → Option Item
+item_bound words state input = option_and_then (λ place. state (binding_file (word_at words (3 + place)))) (place_bound (bound_names words) input.name)
+
+-- the owner of a cipher
+abbrev pub owner_of : Option Item → Option Owner
+owner_of (Some (sealed owner values)) = Some owner
+owner_of _ = None
+
+-- the values that an item gives to an input of this kind: those that are sealed for this owner, or those that a text lists
+abbrev pub values_given : Owner → SetName → InputKind → Option Item → Option (List ℕ)
+values_given owner set input.Cipher (Some (sealed other values)) = if same_owner owner other then Some values else None
+values_given owner set input.Plain (Some (text bytes)) = result_ok (values_of bytes (degree_of set) (plain_of set))
+values_given owner set kind item = None
+
+-- all values, where none is missing
+abbrev pub all_given : List (Option (List ℕ)) → Option (List (List ℕ))
+all_given [] = Some []
+all_given (given ∷ others) = option_and_then (λ values. option_map (λ lists. values ∷ lists) (all_given others)) given
+
+-- a script's value on what is given to its inputs, sealed for this owner
+abbrev pub sealed_value : Script → List (List ℕ) → State → Owner → Option Item
+sealed_value script words state owner =
+    option_map (λ lists. sealed owner (value_of script lists))
+    (all_given (map (λ input. values_given owner script.set input.kind (item_bound words state input)) script.inputs))
+
+-- a script seals its value for the owner of the cipher that is bound to its first cipher input
+abbrev pub ran_script : List (List ℕ) → State → Script → Option Item
+ran_script words state script =
+    option_and_then (sealed_value script words state)
+    (option_and_then (λ input. owner_of (item_bound words state input)) (slice_get (cipher_inputs script.inputs) 0))
+
+-- a text, as a script, is run
+abbrev pub ran : List (List ℕ) → State → Option Item → Option Item
+ran words state (Some (text bytes)) = option_and_then (ran_script words state) (result_ok (script_of bytes))
+ran words state _ = None
+
 -- the item of the file OUT; a command without one makes none
 abbrev pub item_made : Form → List (List ℕ) → State → Option Item
 item_made form.Secret words state = option_and_then (λ set. drawn set (state (word_at words 2))) (set_named (word_at words 1))
 item_made form.Public words state = published (state (word_at words 1))
 item_made form.Encrypt words state = sealed_under (state (word_at words 1)) (state (word_at words 3))
+item_made form.Run words state = ran words state (state (word_at words 1))
 item_made form.Decrypt words state = opened (state (word_at words 1)) (state (word_at words 2))
 item_made form.Check words state = None
 

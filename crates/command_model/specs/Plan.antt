@@ -1,22 +1,26 @@
 -- What the words of a command and the files lead to: the first refusal, or the file OUT as far as it is determined.
-use Rattle.std.specs.Option.{option_map}
+use Rattle.std.specs.Option.{option_map, option_or}
 use Rattle.std.specs.Str.{bytes_eq}
-use Rattle.std.specs.Prelude.{◌≡◌, ℕ, ◌<◌, nat_lt, not, ◌&&◌, ◌==◌, if◌then◌else◌, List, length, take, slice_get, unwrap_or, All, Option, Some, None, is_none, Result, Ok, Err, IsOk}
+use Rattle.std.specs.Prelude.{◌≡◌, ℕ, ◌+◌, ◌-◌, ◌<◌, nat_lt, not, ◌&&◌, ◌==◌, if◌then◌else◌, List, [], ◌∷◌, length, map, take, position, slice_get, slice_index, unwrap_or, All, Option, Some, None, is_none, Result, Ok, Err, IsOk}
 use Rattle.outer_io.specs.Store.{Files, file}
 use Rattle.set_table.specs.declared.SetName.{SetName}
 use Rattle.set_table.specs.Sets.{number_of, degree_of, plain_of, special_of}
-use Rattle.bfv_model.specs.FileText.{FileContent, file_text}
+use Rattle.bfv_model.specs.declared.file_kind.FileKind.TheVariants as kind
+use Rattle.bfv_model.specs.FileText.{FileContent, IsFile, file_text}
 use Rattle.bfv_model.specs.Drawn.{stream_word, seed_stream, greatest_error}
 use Rattle.bfv_model.specs.DrawnFiles.{drawn_secret_file, drawn_public_file, drawn_cipher_file}
 use Rattle.bfv_model.specs.NoiseBounds.{fresh_bound}
 use Rattle.bfv_model.specs.Slots.{slots_of}
 use Rattle.bound_num.specs.declared.Bound.{Bound}
-use Rattle.bound_num.specs.Bound.{IsUp}
+use Rattle.bound_num.specs.Bound.{IsUp, bound_value}
 use Rattle.ring_law.specs.Rows.{natural_polynomial}
 use Rattle.script_text.specs.declared.faults.ValuePlace.{ValuePlace}
 use Rattle.script_text.specs.declared.faults.ScriptPlace.{ScriptPlace}
+use Rattle.script_text.specs.declared.faults.ScriptPlace.TheVariants.{Syntax}
+use Rattle.script_text.specs.declared.script.InputKind.{InputKind}
+use Rattle.script_text.specs.declared.script.InputKind.TheVariants as input
 use Rattle.script_text.specs.Reading.{values_of}
-use Rattle.script_text.specs.Scripts.{Script, needs_of}
+use Rattle.script_text.specs.Scripts.{Script, needs_of, parts_of, is_linear}
 use Rattle.script_text.specs.Grammar.{script_of}
 use Rattle.script_text.specs.Values.{printed_values}
 use Rattle.noise_check.specs.declared.verdict.Verdict.{Verdict}
@@ -28,12 +32,13 @@ use Rattle.cipher_files.specs.declared.head.Wanted.TheVariants.{Secret, Public, 
 use Rattle.cipher_files.specs.declared.faults.FileFault.{FileFault}
 use Rattle.cipher_files.specs.declared.faults.FileFault.TheVariants as fault
 use Rattle.cipher_files.specs.declared.faults.FileFault.TheVariants.{Missing, Failed, Kind}
-use Rattle.command_words.specs.Form.{form_of, out_word, set_named}
+use Rattle.command_words.specs.Form.{form_of, out_word, set_named, binding_name, binding_file}
 use Rattle.command_words.specs.Line.{word_at, accepted_text}
 use Rattle.command_words.specs.declared.form.Form.{Form}
 use Rattle.command_words.specs.declared.form.Form.TheVariants as form
 use Rattle.command_words.specs.declared.status.Status.{Status}
-use Rattle.command_words.specs.declared.status.Status.TheVariants.{Usage, Memory, ReadFault, MissingFile, NotOurs, Version, Damaged, WrongKind, SetMismatch, KeyMismatch, BadValues, BadScript, TooNoisy, NoSpecial, ShortSeed}
+use Rattle.command_words.specs.declared.status.Status.TheVariants.{Usage, Memory, ReadFault, MissingFile, NotOurs, Version, Damaged, WrongKind, SetMismatch, KeyMismatch, BadValues, BadScript, TooNoisy, Binding, NoSpecial, ShortSeed, PartsMismatch}
+use Rattle.command_model.specs.Bindings.{bindings_of, bound_names, input_named, kind_at, fault_of_bindings, Operand, bound_cipher, bound_values, first_key_id, Run, ciphers_of, plains_of}
 
 -- what is said of a file that is refused with a fault, the file being named by a word
 abbrev pub status_of : ℕ → FileFault → Status
@@ -113,6 +118,8 @@ pub data Output : Type 0 where
   file_with : (content : FileContent) → Output
   -- a fresh cipher of these values under a public key, drawn from the stream of a seed
   sealing : (public : FileContent) (listed seed : List ℕ) → Output
+  -- the cipher that the run of a script gives
+  running : (run : Run) → Output
   -- the values of a cipher under a secret
   values : (secret cipher : FileContent) → Output
   -- the noise bound of what an accepted script puts out
@@ -165,11 +172,97 @@ checked script =
 abbrev pub plan_of_check : List (List ℕ) → Files → Result Output Status
 plan_of_check words files = and_then (script_operand words files 1) checked
 
+-- the first refusal comes before a result
+abbrev pub unless : {A : Type 0} → Option Status → Result A Status → Result A Status
+unless None result = result
+unless (Some refusal) result = Err refusal
+
+-- the line of a script's step
+abbrev pub line_of_step : Script → ℕ → ℕ
+line_of_step script step = slice_index (map (λ s. s.line) script.steps) step
+
+-- the first step that isn't linear is refused, as products of ciphers and the switching of keys aren't built
+abbrev pub unbuilt : Script → Option Status
+unbuilt script = option_map (λ step. BadScript (Syntax (line_of_step script step))) (position (λ step. not (is_linear step.op)) script.steps)
+
+-- what is wrong with the bindings of `run`
+abbrev pub badly_bound : Script → List (List ℕ) → Option Status
+badly_bound script words = option_map Binding (fault_of_bindings script (bound_names words))
+
+-- the operand in a file that is bound to an input of this kind, the file being named by a word
+abbrev pub taken_operand : SetName → InputKind → ℕ → Option (List ℕ) → Result Operand Status
+taken_operand set input.Cipher word held = and_then (taken Cipher word held) (λ content. Ok (bound_cipher content))
+taken_operand set input.Plain word held = and_then (taken_values set word held) (λ listed. Ok (bound_values listed))
+
+-- the operand of a binding, which is a word of this number
+abbrev pub operand_bound : Script → Files → ℕ → List ℕ → Result Operand Status
+operand_bound script files word binding =
+    taken_operand script.set (kind_at script (input_named script (binding_name binding))) word (file files (binding_file binding))
+
+-- the operands of bindings, the first of which is the word of this number; each is read after the one before it was taken
+abbrev pub operands_from : Script → Files → ℕ → List (List ℕ) → Result (List Operand) Status
+operands_from script files word [] = Ok []
+operands_from script files word (binding ∷ bindings) =
+    and_then (operand_bound script files word binding) (λ operand. and_then (operands_from script files (word + 1) bindings) (λ operands. Ok (operand ∷ operands)))
+
+-- a cipher of another set than the script's
+abbrev pub set_refusal : SetName → ℕ → Operand → Option Status
+set_refusal set word (bound_cipher content) = if number_of content.set == number_of set then None else Some (SetMismatch word content.set set)
+set_refusal set word (bound_values listed) = None
+
+-- a cipher of three parts
+abbrev pub parts_refusal : ℕ → Operand → Option Status
+parts_refusal word (bound_cipher content) = if content.parts == 2 then None else Some (PartsMismatch word content.parts 2)
+parts_refusal word (bound_values listed) = None
+
+-- a cipher of another key id than this one
+abbrev pub key_refusal : List ℕ → ℕ → Operand → Option Status
+key_refusal key_id word (bound_cipher content) = if bytes_eq content.key_id key_id then None else Some (KeyMismatch word content.key_id key_id)
+key_refusal key_id word (bound_values listed) = None
+
+-- the first refusal of operands in word order, the first of which is that of the word of this number
+abbrev pub first_refusal : (ℕ → Operand → Option Status) → ℕ → List Operand → Option Status
+first_refusal refusal word [] = None
+first_refusal refusal word (operand ∷ operands) = option_or (refusal word operand) (first_refusal refusal (word + 1) operands)
+
+-- what doesn't match among the operands of a script's bindings: the sets come first, and then the parts and the key ids
+abbrev pub mismatch : Script → List Operand → Option Status
+mismatch script operands =
+    option_or (first_refusal (set_refusal script.set) 3 operands)
+    (option_or (first_refusal parts_refusal 3 operands) (first_refusal (key_refusal (first_key_id operands)) 3 operands))
+
+-- the bounds on the noise that contents state
+abbrev pub stated_bounds : List FileContent → List ℕ
+stated_bounds contents = map (λ content. bound_value content.mantissa content.exponent) contents
+
+-- an accepted script is run on the operands of its bindings
+abbrev pub run_or_noisy : Script → List (List ℕ) → List Operand → Verdict → Result Output Status
+run_or_noisy script names operands (verdict.Accepted bounds) = Ok (running (record {
+  script = script;
+  ciphers = ciphers_of script names operands;
+  plains = plains_of script names operands;
+  key_id = first_key_id operands;
+  bound = bound_at bounds script.output;
+}))
+run_or_noisy script names operands (verdict.TooNoisy line bound limit) = Err (TooNoisy line bound limit)
+
+-- operands that match are run on, if the script is accepted with the bounds that they state
+abbrev pub run_on : Script → List (List ℕ) → List Operand → Result Output Status
+run_on script names operands =
+    unless (mismatch script operands) (run_or_noisy script names operands (verdict_of script (stated_bounds (ciphers_of script names operands))))
+
+-- `run SCRIPT OUT BINDING..`
+abbrev pub plan_of_run : List (List ℕ) → Files → Result Output Status
+plan_of_run words files =
+    and_then (script_operand words files 1) (λ script. unless (unbuilt script) (unless (badly_bound script words)
+    (and_then (operands_from script files 3 (bindings_of words)) (run_on script (bound_names words)))))
+
 abbrev pub plan_of_form : Option Form → List (List ℕ) → Files → Result Output Status
 plan_of_form None words files = Err Usage
 plan_of_form (Some form.Secret) words files = plan_of_secret words files
 plan_of_form (Some form.Public) words files = plan_of_public words files
 plan_of_form (Some form.Encrypt) words files = plan_of_encrypt words files
+plan_of_form (Some form.Run) words files = plan_of_run words files
 plan_of_form (Some form.Decrypt) words files = plan_of_decrypt words files
 plan_of_form (Some form.Check) words files = plan_of_check words files
 
@@ -177,12 +270,21 @@ plan_of_form (Some form.Check) words files = plan_of_check words files
 abbrev pub plan : List (List ℕ) → Files → Result Output Status
 plan words files = plan_of_form (form_of words) words files
 
+-- no refusal of `run` stands before the file that is bound by this word is read
+pub record IsBindingReached (words : List (List ℕ)) (files : Files) (word : ℕ) : Type 0 where
+  pub script : Script
+  pub read : script_operand words files 1 ≡ Ok script
+  pub built : unbuilt script ≡ None
+  pub well_bound : badly_bound script words ≡ None
+  pub before : IsOk (operands_from script files 3 (take (word - 3) (bindings_of words)))
+
 -- no refusal stands before the file of this word is read
 abbrev pub IsReached : Option Form → List (List ℕ) → Files → ℕ → Type 0
 IsReached None words files word = ⊥
 IsReached (Some form.Secret) words files word = Unit {0}
 IsReached (Some form.Public) words files word = 1 < word → IsOk (operand words files Secret 1)
 IsReached (Some form.Encrypt) words files word = (1 < word → IsOk (operand words files Public 1)) × (2 < word → IsOk (seed_operand words files 2))
+IsReached (Some form.Run) words files word = 1 < word → IsBindingReached words files word
 IsReached (Some form.Decrypt) words files word = 1 < word → IsOk (operand words files Secret 1)
 IsReached (Some form.Check) words files word = Unit {0}
 
@@ -204,10 +306,27 @@ pub record IsFreshCipher (public : FileContent) (listed seed bytes : List ℕ) :
   pub bound : IsUp (fresh_bound (degree_of public.set) (plain_of public.set) greatest_error) mantissa exponent
   pub text : bytes ≡ file_text (drawn_cipher_file public plaintext mantissa exponent (seed_word seed))
 
+-- the bytes are the file of a cipher of the script's set and the run's key id, with the parts of the script's output, that states the
+-- bound of the output
+pub record IsRunFile (run : Run) (bytes : List ℕ) : Type 0 where
+  pub content : FileContent
+  pub is_file : IsFile bytes content
+  pub states : content ≡ record {
+    kind = kind.Cipher;
+    set = run.script.set;
+    parts = slice_index (parts_of run.script.inputs run.script.steps) run.script.output;
+    element = 0;
+    key_id = run.key_id;
+    mantissa = run.bound.m;
+    exponent = run.bound.e;
+    words = content.words;
+  }
+
 -- what is determined of the bytes that a command gives
 abbrev pub IsWritten : Output → List ℕ → Type 0
 IsWritten (file_with content) bytes = bytes ≡ file_text content
 IsWritten (sealing public listed seed) bytes = IsFreshCipher public listed seed bytes
+IsWritten (running run) bytes = IsRunFile run bytes
 IsWritten (values secret cipher) bytes = IsValuesText cipher.set bytes
 IsWritten (accepted bound) bytes = bytes ≡ accepted_text bound
 

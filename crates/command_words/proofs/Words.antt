@@ -1,40 +1,72 @@
 -- Words as strings and as lists of bytes.
-use Rattle.std.proofs.Common.{◌≡◌, ◌≢◌, ◌<◌, inl, inr, Bool, true, false, ◌||◌, ℕ, List, [], ◌∷◌, ◌++◌, map, refl, sym, ap, subst, arith, append-nil}
+use Rattle.std.proofs.Common.{◌≡◌, ◌≢◌, ◌<◌, ◌≤◌, inl, inr, Bool, true, false, ◌||◌, ℕ, List, [], ◌∷◌, ◌++◌, map, refl, sym, ap, subst, arith, append-nil, length, get_or, ◌&&◌, nat_le, ◌-◌, take, drop, suc, zero}
 use Rattle.std.specs.Prelude.{◌↔◌, String, Option, Some, None, is_some, codes, if◌then◌else◌}
 use Rattle.std.specs.Str.{bytes_eq}
 use Rattle.std.proofs.lemmas.Slice.Eq.{bytes_eq-Decides}
-use Rattle.std.specs.List.{list_any}
+use Rattle.std.proofs.lemmas.Option.{unwrap_or-slice_get}
+use Rattle.std.proofs.lemmas.List.{length-map}
+use Rattle.std.proofs.Math.Seq.{take-length}
+use Rattle.std.proofs.lemmas.List.Sums.{AllPass-from_list_all}
+use Rattle.std.proofs.lemmas.List.Folds.{list_all-map}
+use Rattle.std.specs.List.{list_any, list_all}
 use Rattle.std.specs.String.{string_bytes}
 use Rattle.std.specs.declared.alloc.Global.{Global}
 use Rattle.set_table.specs.declared.SetName.{SetName}
 use Rattle.set_table.specs.declared.SetName.TheVariants.{One16, Toy16, S4096, S8192, S16384}
 use Rattle.set_table.specs.Sets.{name_of}
-use Rattle.command_words.specs.Form.{has_empty_word, form_of, form_of_three, form_of_full_words, set_named, word_count, IsOperand}
+use Rattle.command_words.specs.Form.{has_empty_word, form_of, form_of_three, form_of_full_words, set_named, is_binding, is_run, HasCount, IsOperand}
 use Rattle.command_words.specs.Line.{text_about, word_at}
 use Rattle.command_words.specs.declared.form.Form.{Form}
-use Rattle.command_words.specs.declared.form.Form.TheVariants.{Secret, Public, Encrypt, Decrypt, Check}
+use Rattle.command_words.specs.declared.form.Form.TheVariants.{Secret, Public, Encrypt, Run, Decrypt, Check}
 
 -- one of the strings passes a test of bytes exactly where one of the words does
 pub list_any-map : (test : List ℕ → Bool) (words : List (String Global)) → list_any test (map string_bytes words) ≡ list_any (λ word. test (string_bytes word)) words
 list_any-map test [] = refl
 list_any-map test (word ∷ words) = ap (λ (b : Bool). test (string_bytes word) || b) (list_any-map test words)
 
+-- the form of four words is told by the first two
+pub full_four : (words : List (String Global)) (command first : String Global) → 4 ≤ length words → length words < 5
+    → command ≡ get_or words 0 command → first ≡ get_or words 1 first
+    → form_of_full_words (map string_bytes words) ≡ form_of_three (string_bytes command) (string_bytes first)
+full_four (_ ∷ _ ∷ _ ∷ _ ∷ []) command first least below is second = rw is (rw second refl)
+full_four [] command first least below is second = absurd (omega arith)
+full_four (_ ∷ []) command first least below is second = absurd (omega arith)
+full_four (_ ∷ _ ∷ []) command first least below is second = absurd (omega arith)
+full_four (_ ∷ _ ∷ _ ∷ []) command first least below is second = absurd (omega arith)
+full_four (_ ∷ _ ∷ _ ∷ _ ∷ _ ∷ _) command first least below is second = absurd (omega arith)
+
+-- whether words are those of `run`
+pub run_words : (words : List (String Global)) (command : String Global) → 3 ≤ length words → command ≡ get_or words 0 command
+    → is_run (map string_bytes words) ≡ (bytes_eq (string_bytes command) (codes "run")
+    && (nat_le (length words - 3) 997 && list_all (λ word. is_binding (string_bytes word)) (take (length words - 3) (drop 3 words))))
+run_words (name ∷ script ∷ out ∷ bindings) command least is =
+    let count : length (name ∷ script ∷ out ∷ bindings) - 3 ≡ length bindings = omega arith in
+    rw is (rw count (rw (take-length bindings) (rw (length-map bindings (string_bytes {Z = Global})) (rw (list_all-map is_binding (string_bytes {Z = Global}) bindings) refl))))
+run_words [] command least is = absurd (omega arith)
+run_words (_ ∷ []) command least is = absurd (omega arith)
+run_words (_ ∷ _ ∷ []) command least is = absurd (omega arith)
+
 -- the number of a file operand is that of a word
-pub operand_below : (form : Form) (word count : ℕ) → count ≡ word_count form → IsOperand form word → word < count
+pub operand_below : (form : Form) (word count : ℕ) → HasCount form count → IsOperand form count word → word < count
 operand_below Secret word count is second = omega arith
 operand_below Public word count is (inl first) = omega arith
 operand_below Public word count is (inr second) = omega arith
 operand_below Encrypt word count is (inl first) = omega arith
 operand_below Encrypt word count is (inr (inl second)) = omega arith
 operand_below Encrypt word count is (inr (inr third)) = omega arith
+operand_below Run word count is (inl first) = lt is.0 first
+  where
+    lt : 3 ≤ count → word ≡ 1 → word < count
+    lt least first = omega arith
+operand_below Run word count is (inr binding) = binding.1
 operand_below Decrypt word count is (inl first) = omega arith
 operand_below Decrypt word count is (inr second) = omega arith
 operand_below Check word count is first = omega arith
 
 -- a text about a word begins with the text
-pub text_about-split : (words : List (List ℕ)) (text : List ℕ) (word : Option ℕ) → text_about words text word ≡ text ++ text_about words [] word
-text_about-split words text None = sym (append-nil text)
-text_about-split words text (Some word) = refl
+pub text_about-split : (words : List (List ℕ)) (text : List ℕ) (whole : Bool) (word : Option ℕ) → text_about words text whole word ≡ text ++ text_about words [] whole word
+text_about-split words text whole None = sym (append-nil text)
+text_about-split words text whole (Some word) = refl
 
 name_apart : (name : List ℕ) (set : SetName) → name ≢ name_of set → bytes_eq name (name_of set) ≡ false
 name_apart name set apart = decided (bytes_eq name (name_of set)) (bytes_eq-Decides name (name_of set)).0
@@ -62,15 +94,20 @@ pub named_set : (name : List ℕ) (found : Option SetName) → ((set : SetName) 
 named_set name (Some set) is = sym (subst (λ (n : List ℕ). set_named n ≡ Some set) (sym ((is set).0 refl)) (set_of_own_name set))
 named_set name None is = sym (no_set_named name (λ set same. let never : None ≡ Some set = (is set).1 same in absurd (cc)))
 
+-- the form of words that are not those of `run`
+form_without_run : (words : List (List ℕ)) (form : Form) → form ≢ Run → form_of words ≡ Some form → form_of_full_words words ≡ Some form
+form_without_run words form other is = cases (has_empty_word words) (is_run words) is
+  where
+    cases : (empty run : Bool) → (if empty then None else (if run then Some Run else form_of_full_words words)) ≡ Some form → form_of_full_words words ≡ Some form
+    cases true run is = absurd (cc)
+    cases false true is = absurd (other (cc))
+    cases false false is = is
+
 -- words with the form of a command that makes a secret name a set
 pub secret_names_set : (words : List (List ℕ)) → form_of words ≡ Some Secret → (set : SetName) × (set_named (word_at words 1) ≡ Some set)
 unfolding form_of_three
-secret_names_set words is = of_full words (not_empty (has_empty_word words) is)
+secret_names_set words is = of_full words (form_without_run words Secret (λ same. absurd (cc)) is)
   where
-    not_empty : (test : Bool) → (if test then None else form_of_full_words words) ≡ Some Secret → form_of_full_words words ≡ Some Secret
-    not_empty true is = absurd (cc)
-    not_empty false is = is
-
     of_set : (found : Option SetName) → (if is_some found then Some Secret else None) ≡ Some Secret → (set : SetName) × (found ≡ Some set)
     of_set (Some set) is = (set, refl)
     of_set None is = absurd (cc)
@@ -100,3 +137,64 @@ secret_names_set words is = of_full words (not_empty (has_empty_word words) is)
         of_three first (bytes_eq command (codes "secret")) (bytes_eq command (codes "public")) (bytes_eq command (codes "decrypt")) is
     of_full (command ∷ first ∷ second ∷ third ∷ fourth ∷ []) is = absurd (of_four (bytes_eq command (codes "encrypt")) is)
     of_full _ is = absurd (cc)
+
+-- words that are told by the first of them and by their number have not the form of `run`
+full_words_not_run : (words : List (List ℕ)) → form_of_full_words words ≢ Some Run
+unfolding form_of_three
+full_words_not_run (command ∷ first ∷ []) is = of_one (bytes_eq command (codes "check")) is
+  where
+    of_one : (test : Bool) → (if test then Some Check else None) ≢ Some Run
+    of_one true is = cc
+    of_one false is = cc
+full_words_not_run (command ∷ first ∷ second ∷ third ∷ []) is =
+    of_three (bytes_eq command (codes "secret")) (is_some (set_named first)) (bytes_eq command (codes "public")) (bytes_eq command (codes "decrypt")) is
+  where
+    of_three : (secret set public decrypt : Bool)
+        → (if secret then (if set then Some Secret else None) else (if public then Some Public else (if decrypt then Some Decrypt else None))) ≢ Some Run
+    of_three true true public decrypt is = cc
+    of_three true false public decrypt is = cc
+    of_three false set true decrypt is = cc
+    of_three false set false true is = cc
+    of_three false set false false is = cc
+full_words_not_run (command ∷ first ∷ second ∷ third ∷ fourth ∷ []) is = of_four (bytes_eq command (codes "encrypt")) is
+  where
+    of_four : (test : Bool) → (if test then Some Encrypt else None) ≢ Some Run
+    of_four true is = cc
+    of_four false is = cc
+full_words_not_run _ is = cc
+
+-- words of the form `run` are its words
+pub run_is : (words : List (List ℕ)) → form_of words ≡ Some Run → is_run words ≡ true
+run_is words is = cases (has_empty_word words) (is_run words) is
+  where
+    cases : (empty run : Bool) → (if empty then None else (if run then Some Run else form_of_full_words words)) ≡ Some Run → run ≡ true
+    cases true run is = absurd (cc)
+    cases false true is = refl
+    cases false false is = absurd (full_words_not_run words is)
+
+-- where all words are bindings, so is each of them
+binding_among : (words : List (List ℕ)) (w : ℕ) → list_all is_binding words ≡ true → w < length words → is_binding (word_at words w) ≡ true
+binding_among words w all below =
+    rw (unwrap_or-slice_get words w []) (AllPass-from_list_all is_binding words all w [] below)
+
+-- each word of `run` from number 3 on is a binding
+pub binding_at : (words : List (List ℕ)) → form_of words ≡ Some Run → (w : ℕ) → 3 ≤ w → w < length words → is_binding (word_at words w) ≡ true
+binding_at words is w least below = among words w least below (run_is words is)
+  where
+    second : (a b : Bool) → (a && b) ≡ true → b ≡ true
+    second true b is = is
+    second false b is = absurd (cc)
+
+    third : (a b c : Bool) → (a && (b && c)) ≡ true → c ≡ true
+    third a b c is = second b c (second a (b && c) is)
+
+    among : (words : List (List ℕ)) (w : ℕ) → 3 ≤ w → w < length words → is_run words ≡ true → is_binding (word_at words w) ≡ true
+    among (command ∷ script ∷ out ∷ bindings) (suc (suc (suc w))) least below is =
+        let all = third (bytes_eq command (codes "run")) (nat_le (length bindings) 997) (list_all is_binding bindings) is in
+        binding_among bindings w all (omega arith)
+    among _ zero least below is = absurd (omega arith)
+    among _ (suc zero) least below is = absurd (omega arith)
+    among _ (suc (suc zero)) least below is = absurd (omega arith)
+    among [] (suc (suc (suc w))) least below is = absurd (cc)
+    among (_ ∷ []) (suc (suc (suc w))) least below is = absurd (cc)
+    among (_ ∷ _ ∷ []) (suc (suc (suc w))) least below is = absurd (cc)

@@ -1,12 +1,13 @@
 -- The forms of a command's words.
-use Rattle.std.specs.Prelude.{◌≡◌, ◌⊎◌, ℕ, Bool, List, [], ◌∷◌, Option, Some, None, is_some, length, ◌==◌, codes, find, if◌then◌else◌}
+use Rattle.std.specs.Prelude.{◌≡◌, ◌⊎◌, ℕ, ◌<◌, ◌≤◌, Bool, false, ◌&&◌, nat_lt, nat_le, List, [], ◌∷◌, Option, Some, None, is_some, length, ◌==◌, codes, find, if◌then◌else◌}
 use Rattle.std.specs.Str.{bytes_eq}
-use Rattle.std.specs.List.{list_any}
+use Rattle.std.specs.List.{list_any, list_all, before_first, after_first}
 use Rattle.set_table.specs.declared.SetName.{SetName}
 use Rattle.set_table.specs.declared.SetName.TheVariants.{One16, Toy16, S4096, S8192, S16384}
 use Rattle.set_table.specs.Sets.{name_of}
+use Rattle.script_text.specs.Names.{is_name}
 use Rattle.command_words.specs.declared.form.Form.{Form}
-use Rattle.command_words.specs.declared.form.Form.TheVariants.{Secret, Public, Encrypt, Decrypt, Check}
+use Rattle.command_words.specs.declared.form.Form.TheVariants.{Secret, Public, Encrypt, Run, Decrypt, Check}
 
 -- one of the words is empty
 abbrev pub has_empty_word : List (List ℕ) → Bool
@@ -38,26 +39,50 @@ form_of_full_words (command ∷ first ∷ second ∷ third ∷ []) = form_of_thr
 form_of_full_words (command ∷ first ∷ second ∷ third ∷ fourth ∷ []) = form_of_four command
 form_of_full_words _ = None
 
+-- the sign between the name of an input and that of a file
+abbrev pub is_equals : ℕ → Bool
+is_equals byte = byte == 61
+
+-- what stands before the first `=` of a binding NAME=FILE: the name of a script's input
+abbrev pub binding_name : List ℕ → List ℕ
+binding_name word = before_first is_equals word
+
+-- what stands behind the first `=` of a binding NAME=FILE: the name of a file
+abbrev pub binding_file : List ℕ → List ℕ
+binding_file word = after_first is_equals word
+
+-- a word that binds an input to a file
+abbrev pub is_binding : List ℕ → Bool
+is_binding word = is_name (binding_name word) && nat_lt 0 (length (binding_file word))
+
+-- the words of `run`: a script, the file OUT, and bindings; at most 1,000 words in all
+abbrev pub is_run : List (List ℕ) → Bool
+is_run (command ∷ script ∷ out ∷ bindings) = bytes_eq command (codes "run") && (nat_le (length bindings) 997 && list_all is_binding bindings)
+is_run _ = false
+
 -- the form of words
 abbrev pub form_of : List (List ℕ) → Option Form
-form_of words = if has_empty_word words then None else form_of_full_words words
+form_of words = if has_empty_word words then None else (if is_run words then Some Run else form_of_full_words words)
 
--- how many words a form has
-abbrev pub word_count : Form → ℕ
-word_count Encrypt = 5
-word_count Check = 2
-word_count _ = 4
+-- a form may have so many words
+abbrev pub HasCount : Form → ℕ → Type 0
+HasCount Encrypt count = count ≡ 5
+HasCount Check count = count ≡ 2
+HasCount Run count = (3 ≤ count) × (count ≤ 1000)
+HasCount _ count = count ≡ 4
 
--- the numbers of the words that name the files a form reads
-abbrev pub IsOperand : Form → ℕ → Type 0
-IsOperand Secret word = word ≡ 2
-IsOperand Public word = (word ≡ 1) ⊎ (word ≡ 2)
-IsOperand Encrypt word = (word ≡ 1) ⊎ (word ≡ 2) ⊎ (word ≡ 3)
-IsOperand Decrypt word = (word ≡ 1) ⊎ (word ≡ 2)
-IsOperand Check word = word ≡ 1
+-- the numbers of the words that name the files a form reads, where there are so many words
+abbrev pub IsOperand : Form → ℕ → ℕ → Type 0
+IsOperand Secret count word = word ≡ 2
+IsOperand Public count word = (word ≡ 1) ⊎ (word ≡ 2)
+IsOperand Encrypt count word = (word ≡ 1) ⊎ (word ≡ 2) ⊎ (word ≡ 3)
+IsOperand Run count word = (word ≡ 1) ⊎ ((3 ≤ word) × (word < count))
+IsOperand Decrypt count word = (word ≡ 1) ⊎ (word ≡ 2)
+IsOperand Check count word = word ≡ 1
 
--- the number of the word that names the file OUT, where a form writes one: the last
+-- the number of the word that names the file OUT, where a form writes one
 abbrev pub out_word : Form → Option ℕ
 out_word Encrypt = Some 4
+out_word Run = Some 2
 out_word Check = None
 out_word _ = Some 3

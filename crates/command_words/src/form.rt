@@ -1,9 +1,10 @@
 // The forms of a command's words.
 ghost use Rattle.std.specs.Prelude.{◌≡◌, ◌==◌, map, IfSome, is_some, length, if◌then◌else◌};
-ghost use Rattle.std.specs.List.{list_any};
+ghost use Rattle.std.specs.List.{list_all, list_any};
 ghost use Rattle.std.specs.String.{string_bytes};
 ghost use Rattle.command_words.specs.Form as form;
 
+use script_text::is_name;
 use set_table::SetName;
 
 /// What the words of a command line ask for. Words are counted from 0, the command's name.
@@ -15,6 +16,9 @@ pub enum Form {
     Public,
     /// `encrypt PUB SEEDFILE VALUES OUT` encrypts a text of values.
     Encrypt,
+    /// `run SCRIPT OUT BINDING..` runs a script on encrypted and plain values. A binding `NAME=FILE`
+    /// binds an input of the script to a file.
+    Run,
     /// `decrypt SEC CIPHER OUT` writes the values of a ciphertext.
     Decrypt,
     /// `check SCRIPT` prints the noise bound of what a script puts out.
@@ -24,10 +28,12 @@ pub enum Form {
 /// The form of the words, and `None` where they have none.
 pub fn form_of(words: &[String]) -> Option<Form>
     ensures form { result ≡ form.form_of (map string_bytes words.now) }
-    ensures count { IfSome result (λ f. length words.now ≡ form.word_count f) }
+    ensures count { IfSome result (λ f. form.HasCount f (length words.now)) }
 {
     if has_empty_word(words) {
         None
+    } else if is_run(words) {
+        Some(Form::Run)
     } else {
         form_of_full_words(words)
     }
@@ -39,9 +45,53 @@ fn has_empty_word(words: &[String]) -> bool
     words.iter().any(|word| word.is_empty())
 }
 
+/// Whether the words are those of `run`.
+fn is_run(words: &[String]) -> bool
+    ensures { result ≡ form.is_run (map string_bytes words.now) }
+{
+    match words {
+        [command, _, _, bindings @ ..] => {
+            command.as_str() == "run" && bindings.len() <= 997 && are_bindings(bindings)
+        }
+        _ => false,
+    }
+}
+
+fn are_bindings(words: &[String]) -> bool
+    ensures { result ≡ list_all (λ word. form.is_binding (string_bytes word)) words.now }
+{
+    words.iter().all(|word| is_binding(word.as_str()))
+}
+
+fn is_binding(word: &str) -> bool
+    ensures { result ≡ form.is_binding word.now }
+{
+    is_name(binding_name(word).as_bytes()) && !binding_file(word).is_empty()
+}
+
+/// The name of the input in a binding `NAME=FILE`: what stands before the first `=`.
+pub fn binding_name(word: &str) -> &str
+    ensures { result.now ≡ form.binding_name word.now }
+{
+    match word.split_once('=') {
+        Some((name, _)) => name,
+        None => word,
+    }
+}
+
+/// The name of the file in a binding `NAME=FILE`: what stands behind the first `=`.
+pub fn binding_file(word: &str) -> &str
+    ensures { result.now ≡ form.binding_file word.now }
+{
+    match word.split_once('=') {
+        Some((_, file)) => file,
+        None => "",
+    }
+}
+
 fn form_of_full_words(words: &[String]) -> Option<Form>
     ensures form { result ≡ form.form_of_full_words (map string_bytes words.now) }
-    ensures count { IfSome result (λ f. length words.now ≡ form.word_count f) }
+    ensures count { IfSome result (λ f. form.HasCount f (length words.now)) }
 {
     match words {
         [command, _] => form_of_one(command.as_str()),
@@ -53,7 +103,7 @@ fn form_of_full_words(words: &[String]) -> Option<Form>
 
 fn form_of_one(command: &str) -> Option<Form>
     ensures form { result ≡ form.form_of_one command.now }
-    ensures count { IfSome result (λ f. form.word_count f ≡ 2) }
+    ensures count { IfSome result (λ f. form.HasCount f 2) }
 {
     if command == "check" {
         Some(Form::Check)
@@ -65,7 +115,7 @@ fn form_of_one(command: &str) -> Option<Form>
 #[tactic(auto, unfolding(crate::specs::Form::form_of_three))]
 fn form_of_three(command: &str, first: &str) -> Option<Form>
     ensures form { result ≡ form.form_of_three command.now first.now }
-    ensures count { IfSome result (λ f. form.word_count f ≡ 4) }
+    ensures count { IfSome result (λ f. form.HasCount f 4) }
 {
     if command == "secret" {
         return form_of_secret(first);
@@ -94,7 +144,7 @@ pub fn set_named(name: &str) -> Option<SetName>
 
 fn form_of_four(command: &str) -> Option<Form>
     ensures form { result ≡ form.form_of_four command.now }
-    ensures count { IfSome result (λ f. form.word_count f ≡ 5) }
+    ensures count { IfSome result (λ f. form.HasCount f 5) }
 {
     if command == "encrypt" {
         Some(Form::Encrypt)

@@ -1,13 +1,13 @@
 // The line that a status prints.
-ghost use Rattle.std.specs.Prelude.{◌≡◌, ◌≢◌, ◌<◌, [], ◌++◌, map, length, codes, IfOk, OnOk};
+ghost use Rattle.std.specs.Prelude.{◌≡◌, ◌≢◌, ◌<◌, [], ◌++◌, map, length, codes, decimal, IfOk, OnOk};
 ghost use Rattle.std.specs.Option.{ForSome};
 ghost use Rattle.std.specs.String.{string_bytes};
 ghost use Rattle.outer_io.specs.Sink.{Puts};
 ghost use Rattle.hex.specs.Hex.{encode_lower};
 ghost use Rattle.command_words.specs.Status.{parts_of, damage_text, mismatch_text, place_text, script_place_text, text_and_number, text_and_bound, excess_text};
-ghost use Rattle.command_words.specs.Line.{line, numbered, text_about, accepted_text};
+ghost use Rattle.command_words.specs.Line.{line, numbered, text_about, told_word, file_name, accepted_text};
 
-use crate::Status;
+use crate::{BindingFault, Status, binding_file};
 use bound_num::Bound;
 use itoa::Buffer;
 use outer_io::{Damage, Sink, SinkFault, put_four, put_three, put_two};
@@ -31,10 +31,10 @@ pub fn put_line<O: Sink>(out: &mut O, words: &[String], status: Status) -> Resul
 fn put_text<O: Sink>(out: &mut O, words: &[String], status: Status) -> Result<(), SinkFault>
     requires { ForSome (parts_of status).word (λ word. word < length words.now) }
     ensures { Puts (O.state out.old) (O.state out.new)
-        (text_about (map string_bytes words.now) (numbered (parts_of status).text (parts_of status).number) (parts_of status).word) result }
+        (text_about (map string_bytes words.now) (numbered (parts_of status).text (parts_of status).number) (parts_of status).whole (parts_of status).word) result }
 {
     match put_call(out, status) {
-        Ok(()) => put_word(out, words, status.word()),
+        Ok(()) => put_word(out, words, status.word(), status.whole()),
         Err(fault) => Err(fault),
     }
 }
@@ -51,14 +51,49 @@ fn put_call<O: Sink>(out: &mut O, status: Status) -> Result<(), SinkFault>
     }
 }
 
-/// Puts the word of this number, if there is one, behind a colon.
-fn put_word<O: Sink>(out: &mut O, words: &[String], word: Option<u32>) -> Result<(), SinkFault>
+/// Puts the word of this number, if there is one.
+fn put_word<O: Sink>(
+    out: &mut O,
+    words: &[String],
+    word: Option<u32>,
+    whole: bool,
+) -> Result<(), SinkFault>
     requires { ForSome word (λ w. w < length words.now) }
-    ensures { Puts (O.state out.old) (O.state out.new) (text_about (map string_bytes words.now) [] word) result }
+    ensures { Puts (O.state out.old) (O.state out.new) (text_about (map string_bytes words.now) [] whole word) result }
 {
     match word {
-        Some(word) => put_two(out, b": ", words[word as usize].as_bytes()),
+        Some(word) => put_told(out, words, word as usize, whole),
         None => out.put(b""),
+    }
+}
+
+/// Puts a word: whole behind a space, or the name of its file behind a colon.
+fn put_told<O: Sink>(
+    out: &mut O,
+    words: &[String],
+    word: usize,
+    whole: bool,
+) -> Result<(), SinkFault>
+    requires { word < length words.now }
+    ensures { Puts (O.state out.old) (O.state out.new) (told_word (map string_bytes words.now) whole word) result }
+{
+    if whole {
+        put_two(out, b" ", words[word].as_bytes())
+    } else {
+        put_two(out, b": ", file_name(words, word).as_bytes())
+    }
+}
+
+/// The name of the file that a word names. Behind the second file of `run` stand bindings.
+fn file_name(words: &[String], word: usize) -> &str
+    requires { word < length words.now }
+    ensures { result.now ≡ file_name (map string_bytes words.now) word }
+{
+    let told = words[word].as_str();
+    if word >= 3 && words[0].as_str() == "run" {
+        binding_file(told)
+    } else {
+        told
     }
 }
 
@@ -82,8 +117,10 @@ fn put_detail<O: Sink>(out: &mut O, status: Status) -> Result<(), SinkFault>
         Status::BadValues { fault, .. } => put_place(out, fault),
         Status::BadScript { fault } => put_script_place(out, fault),
         Status::TooNoisy { line, bound, limit } => put_excess(out, line, bound, limit),
+        Status::Binding { fault } => put_binding(out, fault),
         Status::NoSpecial { set } => put_two(out, b": ", set.text().as_bytes()),
         Status::ShortSeed { have, .. } => put_number(out, " ", have as u64),
+        Status::PartsMismatch { have, want, .. } => put_parts(out, have, want),
         _ => out.put(b""),
     }
 }
@@ -120,6 +157,25 @@ fn put_mismatch<O: Sink>(out: &mut O, have: &str, want: &str) -> Result<(), Sink
         b", wanted ",
         want.as_bytes(),
     )
+}
+
+/// Puts two numbers of parts in decimal.
+fn put_parts<O: Sink>(out: &mut O, have: u8, want: u8) -> Result<(), SinkFault>
+    ensures { Puts (O.state out.old) (O.state out.new) (mismatch_text (decimal have) (decimal want)) result }
+{
+    let mut had = Buffer::new();
+    let mut wanted = Buffer::new();
+    put_mismatch(out, had.format(have), wanted.format(want))
+}
+
+/// Puts the input that is bound to no file.
+fn put_binding<O: Sink>(out: &mut O, fault: BindingFault) -> Result<(), SinkFault>
+    ensures { Puts (O.state out.old) (O.state out.new) (parts_of (Status.Binding fault)).detail result }
+{
+    match fault {
+        BindingFault::Unbound(input) => put_number(out, " ", input as u64),
+        _ => out.put(b""),
+    }
 }
 
 /// Puts two key ids in hexadecimal digits.

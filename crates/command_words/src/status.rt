@@ -1,11 +1,44 @@
 // How a command ends.
-ghost use Rattle.std.specs.Prelude.{◌≡◌};
+ghost use Rattle.std.specs.Prelude.{◌≡◌, is_some};
 ghost use Rattle.command_words.specs.Status.{parts_of};
 
 use bound_num::Bound;
 use outer_io::Damage;
 use script_text::{ScriptPlace, ValuePlace};
 use set_table::SetName;
+
+/// What is wrong with the bindings of a script's inputs to files.
+#[derive(Clone, Copy, Debug, PartialEq, Eq)]
+pub enum BindingFault {
+    /// The binding in the word of this number names no input.
+    Undeclared(u32),
+    /// The binding in the word of this number names an input that was bound before.
+    Twice(u32),
+    /// The input of this number, counted from 0 in order of declaration, is bound to no file.
+    Unbound(u32),
+}
+
+impl BindingFault {
+    fn text(&self) -> &'static str
+        ensures { result.now ≡ (parts_of (Status.Binding self.now)).text }
+    {
+        match self {
+            BindingFault::Undeclared(_) => "binding: undeclared",
+            BindingFault::Twice(_) => "binding: twice",
+            BindingFault::Unbound(_) => "binding: unbound input",
+        }
+    }
+
+    fn word(&self) -> Option<u32>
+        ensures word { result ≡ (parts_of (Status.Binding self.now)).word }
+        ensures whole { is_some result ≡ (parts_of (Status.Binding self.now)).whole }
+    {
+        match *self {
+            BindingFault::Undeclared(word) | BindingFault::Twice(word) => Some(word),
+            BindingFault::Unbound(_) => None,
+        }
+    }
+}
 
 /// How a command ended. A `word` is the number of the word of a file operand, counted from 0.
 #[derive(Clone, Copy, Debug, PartialEq, Eq)]
@@ -70,6 +103,10 @@ pub enum Status {
         bound: Bound,
         limit: Bound,
     },
+    /// The inputs of a script are not each bound to one file.
+    Binding {
+        fault: BindingFault,
+    },
     /// A script switches keys, and its set has no special modulus.
     NoSpecial {
         set: SetName,
@@ -78,6 +115,12 @@ pub enum Status {
     ShortSeed {
         word: u32,
         have: u32,
+    },
+    /// A cipher has `have` parts.
+    PartsMismatch {
+        word: u32,
+        have: u8,
+        want: u8,
     },
 }
 
@@ -102,8 +145,10 @@ impl Status {
             Status::BadValues { .. } => 13,
             Status::BadScript { .. } => 14,
             Status::TooNoisy { .. } => 15,
+            Status::Binding { .. } => 17,
             Status::NoSpecial { .. } => 18,
             Status::ShortSeed { .. } => 19,
+            Status::PartsMismatch { .. } => 26,
         }
     }
 
@@ -127,8 +172,10 @@ impl Status {
             Status::BadValues { .. } => "bad values",
             Status::BadScript { .. } => "bad script",
             Status::TooNoisy { .. } => "too noisy",
+            Status::Binding { fault } => fault.text(),
             Status::NoSpecial { .. } => "no special modulus",
             Status::ShortSeed { .. } => "short seed",
+            Status::PartsMismatch { .. } => "parts mismatch",
         }
     }
 
@@ -156,7 +203,9 @@ impl Status {
             | Status::SetMismatch { word, .. }
             | Status::KeyMismatch { word, .. }
             | Status::BadValues { word, .. }
-            | Status::ShortSeed { word, .. } => Some(word),
+            | Status::ShortSeed { word, .. }
+            | Status::PartsMismatch { word, .. } => Some(word),
+            Status::Binding { fault } => fault.word(),
             Status::Done
             | Status::Usage
             | Status::Memory
@@ -164,6 +213,15 @@ impl Status {
             | Status::BadScript { .. }
             | Status::TooNoisy { .. }
             | Status::NoSpecial { .. } => None,
+        }
+    }
+    /// Whether the word is told whole, and not by the name of a file.
+    pub(crate) fn whole(&self) -> bool
+        ensures { result ≡ (parts_of self.now).whole }
+    {
+        match self {
+            Status::Binding { fault } => fault.word().is_some(),
+            _ => false,
         }
     }
 }

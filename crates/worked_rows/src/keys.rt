@@ -1,15 +1,9 @@
 // Secrets, public keys and ciphers of all sets, from seeds.
-ghost use Rattle.std.specs.Prelude.{◌≡◌, None, IfOk};
-ghost use Rattle.outer_io.specs.Memory.{pending_name};
-
-use crate::words::words_of;
-use bfv_commands::command;
+use crate::commands::{SIXTEEN, made, run, seed};
 use command_words::Status;
-use outer_io::{MemSink, MemStore};
+use outer_io::MemStore;
 use std::alloc::{AllocError, Global};
 use std::test::Fail;
-
-const SIXTEEN: &str = "1 2 3 4 5 6 7 8\n9 10 11 12 13 14 15 16\n";
 
 /// The digest of the secret of `toy16` that the first seed draws.
 const TOY_SECRET: &str = "8a9c25cc8f027d2025efb4041ecad25b52407f7e34297dbd113e300c48274dd9";
@@ -18,42 +12,6 @@ const TOY_SECRET: &str = "8a9c25cc8f027d2025efb4041ecad25b52407f7e34297dbd113e30
 const LARGEST_SECRET: &str = "55f2c00ecfc7c13eeab13b64f1946f426a86e260a4449553966f1563dac76f67";
 
 const ZEROS: &str = "0 0 0 0 0 0 0 0\n0 0 0 0 0 0 0 0\n";
-
-/// The seed of 32 bytes that begins with 1 and has a number in its ninth byte.
-fn seed(number: u8) -> [u8; 32] {
-    let mut seed = [0; 32];
-    seed[0] = 1;
-    seed[8] = number;
-    seed
-}
-
-/// Runs a command, and answers its status and what it printed.
-fn run(alloc: Global, store: &mut MemStore, texts: &[&str]) -> Result<(Status, Vec<u8>), AllocError>
-    requires { pending_name (store.old).pending ≡ None }
-    ensures { pending_name (store.new).pending ≡ None }
-{
-    let words = words_of(alloc, texts)?;
-    let mut out = MemSink::new(alloc);
-    let status = command(alloc, &words, store, &mut out);
-    Ok((status, out.text().to_vec(alloc)?))
-}
-
-/// A store with seeds, a text of values, the secret, public key and cipher of a set that they make,
-/// and the values that come back.
-fn made(alloc: Global, set: &str, values: &str) -> Result<MemStore, AllocError>
-    ensures { IfOk result (λ s. pending_name s.pending ≡ None) }
-{
-    let mut store = MemStore::new(alloc);
-    store.put_file("s0", &seed(0))?;
-    store.put_file("s1", &seed(1))?;
-    store.put_file("s4", &seed(4))?;
-    store.put_file("v", values.as_bytes())?;
-    run(alloc, &mut store, &["secret", set, "s0", "sec"])?;
-    run(alloc, &mut store, &["public", "sec", "s1", "pub"])?;
-    run(alloc, &mut store, &["encrypt", "pub", "s4", "v", "c"])?;
-    run(alloc, &mut store, &["decrypt", "sec", "c", "back"])?;
-    Ok(store)
-}
 
 /// What a command leads to, and the bytes of the file `x` after it.
 #[derive(Drop)]

@@ -4,10 +4,14 @@
 #[cfg(test)]
 mod check;
 #[cfg(test)]
+mod commands;
+#[cfg(test)]
 mod decrypt;
 #[cfg(test)]
 mod files;
 #[cfg(test)]
 mod keys;
+#[cfg(test)]
+mod runs;
 #[cfg(test)]
 mod words;

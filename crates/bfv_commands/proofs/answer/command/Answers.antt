@@ -1,8 +1,9 @@
-use Rattle.std.proofs.Common.{◌≡◌, List, ℕ, length, map, rules, ap, subst, ◌∙◌}
+use Rattle.std.proofs.Common.{◌≡◌, ◌<◌, List, ℕ, length, map, rules, sym, ap, subst, ◌∙◌}
+use Rattle.std.proofs.lemmas.List.{length-map}
 use Rattle.std.specs.Prelude.{Some}
 use Rattle.std.specs.Option.{option_map}
 use Rattle.std.specs.String.{string_bytes}
-use Rattle.command_words.specs.Form.{form_of}
+use Rattle.command_words.specs.Form.{form_of, HasCount}
 use Rattle.command_words.proofs.Words.{operand_below}
 use Rattle.command_model.specs.Plan.{plan_of_form, out_name}
 use Rattle.bfv_commands.specs.Stages.{Announced, AreWritten}
@@ -15,7 +16,9 @@ pub report-requires-clause-word : goal.report-requires-clause-word
 report-requires-clause-word g c = λ word at.
     let count = c.in-Some.ensures.count in
     let named = c.in-Err.ensures.cause.word word at in
-    operand_below c.in-Some.form word (length c.args.words.now) count named
+    let all = length-map c.args.words.now string_bytes in
+    let told = subst (HasCount c.in-Some.form) (sym all) count in
+    subst (λ n. word < n) all (operand_below c.in-Some.form word (length (map string_bytes c.args.words.now)) told named)
 
 pub returns-in-Ok-None-clause-told : goal.returns-in-Ok-None-clause-told
 returns-in-Ok-None-clause-told g c = λ files told.

@@ -21,4 +21,4 @@ returns-in-Ok-accepted_line-clause-line g c = record {
 
 pub returns-in-Err-accepted_bound-clause-cause : goal.returns-in-Err-accepted_bound-clause-cause
 returns-in-Err-accepted_bound-clause-cause g c =
-    caused_by_no_call (IsOperand Check) _ _ c.in-Err-accepted_bound.status (c.in-Err-accepted_bound.ensures.cause _ _)
+    caused_by_no_call (IsOperand Check 2) _ _ c.in-Err-accepted_bound.status (c.in-Err-accepted_bound.ensures.cause _ _)

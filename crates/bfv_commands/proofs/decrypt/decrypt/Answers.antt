@@ -26,7 +26,7 @@ returns-in-Err-clause-told g c = λ files told.
 pub returns-in-Err-clause-cause : goal.returns-in-Err-clause-cause
 returns-in-Err-clause-cause g c =
     let state = g.S.Store.state in
-    caused_as (λ w. w ≡ 1) (IsOperand form.Decrypt) (state c.args.store.now) (state c.scan_operand.new.store) c.in-Err.status (λ w is. inl is) c.in-Err.ensures.cause
+    caused_as (λ w. w ≡ 1) (IsOperand form.Decrypt 4) (state c.args.store.now) (state c.scan_operand.new.store) c.in-Err.status (λ w is. inl is) c.in-Err.ensures.cause
 
 pub returns-in-Err-scan_operand-clause-told : goal.returns-in-Err-scan_operand-clause-told
 returns-in-Err-scan_operand-clause-told g c = λ files told.
@@ -41,8 +41,8 @@ pub returns-in-Err-scan_operand-clause-cause : goal.returns-in-Err-scan_operand-
 returns-in-Err-scan_operand-clause-cause g c =
     let state = g.S.Store.state in
     let status = c.in-Err-scan_operand.status in
-    caused_behind (IsOperand form.Decrypt) (state c.args.store.now) (state c.scan_operand.new.store) (state c.scan_operand-2.new.store) status c.in-Ok.ensures.keeps
-    (caused_as (λ w. w ≡ 2) (IsOperand form.Decrypt) (state c.scan_operand.new.store) (state c.scan_operand-2.new.store) status (λ w is. inr is) c.in-Err-scan_operand.ensures.cause)
+    caused_behind (IsOperand form.Decrypt 4) (state c.args.store.now) (state c.scan_operand.new.store) (state c.scan_operand-2.new.store) status c.in-Ok.ensures.keeps
+    (caused_as (λ w. w ≡ 2) (IsOperand form.Decrypt 4) (state c.scan_operand.new.store) (state c.scan_operand-2.new.store) status (λ w is. inr is) c.in-Err-scan_operand.ensures.cause)
 
 pub returns-in-Err-match_heads-clause-told : goal.returns-in-Err-match_heads-clause-told
 returns-in-Err-match_heads-clause-told g c = λ files told.
@@ -57,7 +57,7 @@ returns-in-Err-match_heads-clause-told g c = λ files told.
 pub returns-in-Err-match_heads-clause-cause : goal.returns-in-Err-match_heads-clause-cause
 returns-in-Err-match_heads-clause-cause g c =
     let state = g.S.Store.state in
-    caused_as (λ w. w ≡ 2) (IsOperand form.Decrypt) (state c.args.store.now) (state c.scan_operand-2.new.store) c.in-Err-match_heads.status (λ w is. inr is)
+    caused_as (λ w. w ≡ 2) (IsOperand form.Decrypt 4) (state c.args.store.now) (state c.scan_operand-2.new.store) c.in-Err-match_heads.status (λ w is. inr is)
     (c.in-Err-match_heads.ensures.cause (state c.args.store.now) (state c.scan_operand-2.new.store))
 
 pub returns-in-Err-opened_text-clause-told : goal.returns-in-Err-opened_text-clause-told
@@ -75,8 +75,8 @@ returns-in-Err-opened_text-clause-cause g c =
     let state = g.S.Store.state in
     let status = c.in-Err-opened_text.status in
     let new = state c.opened_text.new.store in
-    caused_behind (IsOperand form.Decrypt) (state c.args.store.now) (state c.scan_operand.new.store) new status c.in-Ok.ensures.keeps
-    (caused_behind (IsOperand form.Decrypt) (state c.scan_operand.new.store) (state c.scan_operand-2.new.store) new status c.in-Ok-scan_operand.ensures.keeps
+    caused_behind (IsOperand form.Decrypt 4) (state c.args.store.now) (state c.scan_operand.new.store) new status c.in-Ok.ensures.keeps
+    (caused_behind (IsOperand form.Decrypt 4) (state c.scan_operand.new.store) (state c.scan_operand-2.new.store) new status c.in-Ok-scan_operand.ensures.keeps
     c.in-Err-opened_text.ensures.cause)
 
 pub returns-in-Ok-write_file-clause-told : goal.returns-in-Ok-write_file-clause-told
@@ -112,8 +112,8 @@ returns-clause-cause g c =
     let status = c.write_status.result in
     let new = state c.write_file.new.store in
     let before = state c.scan_operand-2.new.store in
-    let wrote = subst (Caused (IsOperand form.Decrypt) before new) (sym c.write_status.ensures)
-    (caused_by_write (IsOperand form.Decrypt) before (state c.opened_text.new.store) new c.in-Err-write_file.fault c.in-Ok-opened_text.ensures.keeps
+    let wrote = subst (Caused (IsOperand form.Decrypt 4) before new) (sym c.write_status.ensures)
+    (caused_by_write (IsOperand form.Decrypt 4) before (state c.opened_text.new.store) new c.in-Err-write_file.fault c.in-Ok-opened_text.ensures.keeps
     c.in-Err-write_file.ensures.keeps) in
-    caused_behind (IsOperand form.Decrypt) (state c.args.store.now) (state c.scan_operand.new.store) new status c.in-Ok.ensures.keeps
-    (caused_behind (IsOperand form.Decrypt) (state c.scan_operand.new.store) before new status c.in-Ok-scan_operand.ensures.keeps wrote)
+    caused_behind (IsOperand form.Decrypt 4) (state c.args.store.now) (state c.scan_operand.new.store) new status c.in-Ok.ensures.keeps
+    (caused_behind (IsOperand form.Decrypt 4) (state c.scan_operand.new.store) before new status c.in-Ok-scan_operand.ensures.keeps wrote)

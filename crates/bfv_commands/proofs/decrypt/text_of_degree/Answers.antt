@@ -15,7 +15,7 @@ returns-in-Err-clause-told g c = λ files told a b of_secret of_cipher. record {
 pub returns-in-Err-clause-cause : goal.returns-in-Err-clause-cause
 returns-in-Err-clause-cause g c =
     let state = g.S.Store.state in
-    caused_as (λ w. w ≡ 1) (IsOperand form.Decrypt) (state c.args.store.now) (state c.secret_again.new.store) c.in-Err.status (λ w is. inl is) c.in-Err.ensures.cause
+    caused_as (λ w. w ≡ 1) (IsOperand form.Decrypt 4) (state c.args.store.now) (state c.secret_again.new.store) c.in-Err.status (λ w is. inl is) c.in-Err.ensures.cause
 
 pub returns-in-Err-cipher_again-clause-told : goal.returns-in-Err-cipher_again-clause-told
 returns-in-Err-cipher_again-clause-told g c = λ files told a b of_secret of_cipher.
@@ -24,9 +24,9 @@ returns-in-Err-cipher_again-clause-told g c = λ files told a b of_secret of_cip
 pub returns-in-Err-cipher_again-clause-cause : goal.returns-in-Err-cipher_again-clause-cause
 returns-in-Err-cipher_again-clause-cause g c =
     let state = g.S.Store.state in
-    let cause = caused_as (λ w. w ≡ 2) (IsOperand form.Decrypt) (state c.secret_again.new.store) (state c.cipher_again.new.store) c.in-Err-cipher_again.status
+    let cause = caused_as (λ w. w ≡ 2) (IsOperand form.Decrypt 4) (state c.secret_again.new.store) (state c.cipher_again.new.store) c.in-Err-cipher_again.status
     (λ w is. inr is) c.in-Err-cipher_again.ensures.cause in
-    caused_behind (IsOperand form.Decrypt) (state c.args.store.now) (state c.secret_again.new.store) (state c.cipher_again.new.store) c.in-Err-cipher_again.status
+    caused_behind (IsOperand form.Decrypt 4) (state c.args.store.now) (state c.secret_again.new.store) (state c.cipher_again.new.store) c.in-Err-cipher_again.status
     c.in-Ok-secret_again.ensures.keeps cause
 
 pub returns-in-Ok-decrypted_text-clause-told : goal.returns-in-Ok-decrypted_text-clause-told

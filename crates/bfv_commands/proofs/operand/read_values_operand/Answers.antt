@@ -1,36 +1,10 @@
-use Rattle.std.proofs.Common.{◌≡◌, inl, inr, ⊎_elim, ℕ, List, map, ap, sym, subst, ◌∙◌}
-use Rattle.std.specs.Prelude.{None, Err}
-use Rattle.std.specs.String.{string_bytes}
-use Rattle.std.proofs.lemmas.Result.{IfOk-weaker, IfErr-weaker}
-use Rattle.set_table.specs.Sets.{degree_of, plain_of}
-use Rattle.outer_io.specs.Store.{file, contents}
-use Rattle.command_words.specs.Line.{word_at}
-use Rattle.script_text.specs.Reading.{values_of}
-use Rattle.command_model.specs.Answers.{IsFault}
-use Rattle.command_model.specs.Plan.{taken_values, values_or_fault}
-use Rattle.bfv_commands.proofs.ValueTexts.{values_of_front, values_of_taken}
+use Rattle.std.proofs.Common.{subst}
+use Rattle.outer_io.specs.Store.{file}
+use Rattle.command_model.specs.Plan.{taken_values}
+use Rattle.bfv_commands.specs.Stages.{Planned}
 use Rattle.bfv_commands.proofs.operand.read_values_operand.Goals as goal
 
-pub returns-in-Ok-clause-told : goal.returns-in-Ok-clause-told
-returns-in-Ok-clause-told g c = λ files told.
-    let name : c.name_of.result.now ≡ word_at (map string_bytes c.args.words.now) c.args.word = c.name_of.ensures in
-    let read = (c.in-Ok.ensures.told files told).ok in
-    let bytes = contents files c.name_of.result.now in
-    let same : values_or_fault c.args.word (values_of c.deref.result.now (degree_of c.args.set) (plain_of c.args.set)) ≡ taken_values c.args.set c.args.word (file files (word_at (map string_bytes c.args.words.now) c.args.word)) =
-    ap (λ (text : List ℕ). values_or_fault c.args.word (values_of text (degree_of c.args.set) (plain_of c.args.set))) (c.deref.ensures.value ∙ read.1.0)
-    ∙ ap (values_or_fault c.args.word) (values_of_front bytes (degree_of c.args.set) (plain_of c.args.set))
-    ∙ ap (taken_values c.args.set c.args.word) (sym read.0)
-    ∙ ap (λ (n : List ℕ). taken_values c.args.set c.args.word (file files n)) name in
-    record {
-      ok = IfOk-weaker c.take_values.result _ _ (λ values is. sym same ∙ is) c.take_values.ensures.ok;
-      err = IfErr-weaker c.take_values.result _ _ (λ status is. ⊎_elim (λ memory. inl (subst IsFault (sym memory) tt)) (λ bad. inr (sym same ∙ bad.1.1)) is) c.take_values.ensures.err;
-    }
-
-pub returns-in-Ok-clause-values : goal.returns-in-Ok-clause-values
-returns-in-Ok-clause-values g c = IfOk-weaker c.take_values.result _ _ (λ values is. values_of_taken c.args.set c.args.word c.deref.result.now values.items is) c.take_values.ensures.ok
-
-pub returns-in-Err-Missing-clause-told : goal.returns-in-Err-Missing-clause-told
-returns-in-Err-Missing-clause-told g c = λ files told.
-    let name : c.name_of.result.now ≡ word_at (map string_bytes c.args.words.now) c.args.word = c.name_of.ensures in
-    let missing : file files c.name_of.result.now ≡ None = (c.in-Err-Missing.ensures.told files told).missing (ap Err c.in-Err-Missing.field-0-is) in
-    record { ok = tt; err = inr (ap (λ (n : List ℕ). taken_values c.args.set c.args.word (file files n)) (sym name) ∙ ap (taken_values c.args.set c.args.word) missing) }
+pub returns-clause-told : goal.returns-clause-told
+returns-clause-told g c = λ files told.
+    subst (λ name. Planned (taken_values c.args.set c.args.word (file files name)) (λ v. v.items) c.read_values_named.result) c.name_of.ensures
+    (c.read_values_named.ensures.told files told)

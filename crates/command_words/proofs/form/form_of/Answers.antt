@@ -8,7 +8,12 @@ returns-then-has_empty_word-clause-form c =
     let found = list_any-map (λ w. length w == 0) c.args.words.now in
     rw found (rw (← c.has_empty_word.ensures) (rw c.if-has_empty_word.true))
 
-pub returns-else-has_empty_word-clause-form : goal.returns-else-has_empty_word-clause-form
-returns-else-has_empty_word-clause-form c =
+pub returns-then-is_run-clause-form : goal.returns-then-is_run-clause-form
+returns-then-is_run-clause-form c =
     let found = list_any-map (λ w. length w == 0) c.args.words.now in
-    rw found (rw (← c.has_empty_word.ensures) (rw c.if-has_empty_word.false c.form_of_full_words.ensures.form))
+    rw found (rw (← c.has_empty_word.ensures) (rw c.if-has_empty_word.false (rw (← c.is_run.ensures) (rw c.if-is_run.true))))
+
+pub returns-else-is_run-clause-form : goal.returns-else-is_run-clause-form
+returns-else-is_run-clause-form c =
+    let found = list_any-map (λ w. length w == 0) c.args.words.now in
+    rw found (rw (← c.has_empty_word.ensures) (rw c.if-has_empty_word.false (rw (← c.is_run.ensures) (rw c.if-is_run.false c.form_of_full_words.ensures.form))))

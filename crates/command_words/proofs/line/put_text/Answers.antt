@@ -12,11 +12,11 @@ returns-in-Ok g c =
     let parts = parts_of c.args.status in
     let words = map string_bytes c.args.words.now in
     let state = g.O.Sink.state in
-    subst (λ (text : List ℕ). Puts (state c.args.out.now) (state c.put_word.new.out) text c.put_word.result) (sym (text_about-split words (numbered parts.text parts.number) parts.word))
-    (Puts_then _ _ _ _ _ _ _ c.in-Ok.ensures (rw (← c.word.ensures) c.put_word.ensures))
+    subst (λ (text : List ℕ). Puts (state c.args.out.now) (state c.put_word.new.out) text c.put_word.result) (sym (text_about-split words (numbered parts.text parts.number) parts.whole parts.word))
+    (Puts_then _ _ _ _ _ _ _ c.in-Ok.ensures (rw (← c.word.ensures) (rw (← c.whole.ensures) c.put_word.ensures)))
 
 pub returns-in-Err : goal.returns-in-Err
 returns-in-Err g c =
     let parts = parts_of c.args.status in
     let words = map string_bytes c.args.words.now in
-    rw (text_about-split words (numbered parts.text parts.number) parts.word) (Puts_stop _ _ _ _ _ c.in-Err.ensures)
+    rw (text_about-split words (numbered parts.text parts.number) parts.whole parts.word) (Puts_stop _ _ _ _ _ c.in-Err.ensures)

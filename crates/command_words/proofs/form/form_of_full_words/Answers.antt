@@ -1,0 +1,7 @@
+use Rattle.command_words.proofs.Words.{full_four}
+use Rattle.command_words.proofs.form.form_of_full_words.Goals as goal
+
+pub returns-in-len4-clause-form : goal.returns-in-len4-clause-form
+returns-in-len4-clause-form c =
+    let four = full_four c.args.words.now _ _ c.in-len4.len_at_least c.in-len4.len_below c.command-item-then-words-lt5.is c.first-item.is in
+    rw four (rw (← c.as_str-in-len4.ensures.value) (rw (← c.as_str-in-len4-2.ensures.value) c.form_of_three.ensures.form))
