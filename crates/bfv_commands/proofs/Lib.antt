@@ -27,3 +27,6 @@ pub mod OutputParts
 pub mod Answering
 pub mod Executing
 pub mod RunOutputs
+pub mod BatchForms
+pub mod Chains
+pub mod BatchAnswers

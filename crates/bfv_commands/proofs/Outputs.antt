@@ -1,7 +1,7 @@
 -- The output of a plan: its operands, and what is said of the bytes that are made for it.
 use Rattle.std.proofs.Common.{◌≡◌, ◌≢◌, ◌⊎◌, inl, inr, ⊎_elim, ℕ, List, refl, sym, ◌∙◌, ap, subst}
 use Rattle.std.specs.Prelude.{Bool, not, ◌==◌, ◌&&◌, nat_lt, length, is_none, true, false, Option, Some, None, Result, Ok, Err, IsOk, if◌then◌else◌}
-use Rattle.outer_io.specs.Store.{Files}
+use Rattle.outer_io.specs.Store.{Files, file}
 use Rattle.outer_io.specs.Sink.{SinkState}
 use Rattle.set_table.specs.declared.SetName.{SetName}
 use Rattle.bfv_model.specs.FileText.{FileContent}
@@ -10,7 +10,9 @@ use Rattle.bound_num.specs.declared.Bound.{Bound}
 use Rattle.std.specs.Str.{bytes_eq}
 use Rattle.set_table.specs.Sets.{number_of, special_of}
 use Rattle.cipher_files.specs.declared.head.Wanted.TheVariants.{Secret, Public, Cipher}
+use Rattle.script_text.specs.declared.faults.ScriptPlace.{ScriptPlace}
 use Rattle.script_text.specs.Scripts.{Script, needs_of}
+use Rattle.batch_text.specs.Commands.{commands_of}
 use Rattle.noise_check.specs.declared.verdict.Verdict.{Verdict}
 use Rattle.noise_check.specs.declared.verdict.Verdict.TheVariants as verdict
 use Rattle.noise_check.specs.Verdicts.{fresh_bounds, verdict_of}
@@ -20,7 +22,7 @@ use Rattle.command_words.specs.declared.form.Form.{Form}
 use Rattle.command_words.specs.declared.form.Form.TheVariants as form
 use Rattle.command_words.specs.declared.status.Status.{Status}
 use Rattle.command_words.specs.declared.status.Status.TheVariants.{Done, Memory, ReadFault, WriteFault, SetMismatch, KeyMismatch, NoSpecial}
-use Rattle.command_model.specs.Plan.{Output, file_with, sealing, running, values, accepted, plan, script_operand, checked, accepted_or_noisy, bound_at, plan_of_form, plan_of_secret, plan_of_public, plan_of_encrypt, plan_of_decrypt, operand, matching, set_operand, seed_operand, values_operand, seed_word, and_then, out_name, IsReached, IsWritten}
+use Rattle.command_model.specs.Plan.{Output, file_with, sealing, running, values, accepted, plan, script_operand, checked, accepted_or_noisy, bound_at, plan_of_form, plan_of_secret, plan_of_public, plan_of_encrypt, plan_of_decrypt, operand, matching, set_operand, seed_operand, values_operand, seed_word, and_then, out_name, IsReached, IsWritten, commands, plan_of_batch, taken_batch, batch_or_fault}
 use Rattle.command_model.specs.Bindings.{bound_names}
 use Rattle.command_model.specs.Answers.{AreLeft, IsFault, Told}
 use Rattle.bfv_commands.specs.Stages.{Announced, AreWritten, IsLeftToPut, IsMade}
@@ -137,6 +139,18 @@ checked_bound script output is = of_test (nat_lt 0 (length (needs_of script)) &&
     of_test true is = absurd (cc)
     of_test false is = of_verdict (verdict_of script (fresh_bounds script)) is
 
+-- a batch that isn't refused gives its commands
+pub planned_batch : (words : List (List ℕ)) (files : Files) (output : Output) → plan_of_batch words files ≡ Ok output → (listed : List (List (List ℕ))) × (output ≡ commands listed)
+planned_batch words files output is = of_file (file files (word_at words 1)) is
+  where
+    of_text : (read : Result (List (List (List ℕ))) ScriptPlace) → batch_or_fault read ≡ Ok output → (listed : List (List (List ℕ))) × (output ≡ commands listed)
+    of_text (Ok listed) is = (listed, cc)
+    of_text (Err place) is = absurd (cc)
+
+    of_file : (held : Option (List ℕ)) → taken_batch 1 held ≡ Ok output → (listed : List (List (List ℕ))) × (output ≡ commands listed)
+    of_file None is = absurd (cc)
+    of_file (Some bytes) is = of_text (commands_of bytes) is
+
 -- ---- the bytes that are made are as determined
 -- an output is the one that its operands say
 written_as : (output planned : Output) (bytes : List ℕ) → output ≡ planned → (IsMade planned bytes → IsWritten planned bytes) → IsMade output bytes → IsWritten output bytes
@@ -161,6 +175,9 @@ made_written (Some form.Check) words files output is bytes =
 made_written (Some form.Run) words files output is bytes =
     let p = planned_run words files output is in
     written_as output (running (run_of p.script (bound_names words) p.operands p.bounds)) bytes p.output_is (λ made. made.is)
+made_written (Some form.Batch) words files output is bytes =
+    let listed = planned_batch words files output is in
+    written_as output (commands listed.0) bytes listed.1 (λ made. made)
 made_written (Some form.Decrypt) words files output is bytes =
     let p = planned_values words files output is in
     written_as output (values p.secret p.cipher) bytes p.output_is (λ made. made.text)

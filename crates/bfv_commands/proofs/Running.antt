@@ -45,6 +45,7 @@ reached_planned form.Encrypt words before output is word =
 reached_planned form.Run words before output is word = λ _. binding_reached words before output is word
 reached_planned form.Decrypt words before output is word = let p = planned_values words before output is in λ _. subst IsOk (sym p.secret_is) refl
 reached_planned form.Check words before output is word = tt
+reached_planned form.Batch words before output is word = tt
 
 -- a command behind its last refusal: the file OUT is written, or the answer is one that no word and no file brings about
 pub ran_written : {T : Type 0} (form : Form) (words : List (List ℕ)) (before : Files) (after : Option Files) (name : List ℕ) (output : Output) (result : Result T Status)

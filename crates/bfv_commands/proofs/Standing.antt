@@ -105,6 +105,7 @@ item_of_output form.Run words files state output bytes item stands planned made 
     let p = planned_run words files output planned in
     item_ran words files state output bytes item stands p
     (made_as output (running (run_of p.script (bound_names words) p.operands p.bounds)) bytes p.output_is made) is
+item_of_output form.Batch words files state output bytes item stands planned made is = absurd (cc)
 item_of_output form.Decrypt words files state output bytes item stands planned made is =
     let p = planned_values words files output planned in
     item_opened words files state p.secret p.cipher bytes item stands p.secret_is p.cipher_is

@@ -7,3 +7,4 @@ pub mod Filled
 pub mod Demands
 pub mod Ordered
 pub mod RunStages
+pub mod Batching

@@ -21,7 +21,7 @@ use Rattle.script_text.specs.Scripts.{IsSound}
 use Rattle.script_text.specs.Value.{value_of}
 use Rattle.command_model.specs.Bindings.{Run}
 use Rattle.command_model.specs.Plain.{Owner, IsSealed}
-use Rattle.command_model.specs.Plan.{IsReached, IsFreshCipher, IsRunFile, IsValuesText, Output, file_with, sealing, running, values, accepted, plan_of_form, out_name}
+use Rattle.command_model.specs.Plan.{IsReached, IsFreshCipher, IsRunFile, IsValuesText, Output, file_with, sealing, running, values, accepted, plan_of_form, out_name, commands}
 use Rattle.command_model.specs.Answers.{IsFault, IsOutputLine}
 use Rattle.bfv_commands.specs.BoundFiles.{AreSealed}
 
@@ -53,6 +53,7 @@ IsMade (sealing public listed seed) bytes = IsFreshCipher public listed seed byt
 IsMade (running run) bytes = IsRunOf run bytes
 IsMade (values secret cipher) bytes = IsDecryption secret cipher bytes
 IsMade (accepted bound) bytes = bytes ≡ accepted_text bound
+IsMade (commands listed) bytes = ⊥
 
 -- the bytes are those of a planned output
 pub record PlannedBytes (planned : Result Output Status) (bytes : List ℕ) : Type 0 where

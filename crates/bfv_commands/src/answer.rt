@@ -1,5 +1,5 @@
 // The top call: from words to a status.
-ghost use Rattle.std.specs.Prelude.{◌≡◌, ◌≢◌, ◌⊎◌, ◌<◌, length, map, Option, Some, None, IsSome, OnErr, IfOk, IfErr};
+ghost use Rattle.std.specs.Prelude.{◌≡◌, ◌≢◌, ◌⊎◌, ◌<◌, ◌≤◌, length, map, Option, Some, None, IsSome, OnErr, IfOk, IfErr};
 ghost use Rattle.std.specs.Option.{ForSome, option_map};
 ghost use Rattle.std.specs.String.{string_bytes};
 ghost use Rattle.outer_io.specs.Store.{Files};
@@ -7,9 +7,11 @@ ghost use Rattle.command_words.specs.Form.{form_of, IsOperand, HasCount};
 ghost use Rattle.command_words.specs.Status.{parts_of};
 ghost use Rattle.command_model.specs.Plan as plan;
 ghost use Rattle.command_model.specs.Answers.{Told, NoFaultRose, IsComplete, Cause, Printed};
+ghost use Rattle.command_model.specs.Batches.{BatchAnswered, NoCountFell};
 ghost use Rattle.command_model.specs.Plain.{State, Stands, step};
 ghost use Rattle.bfv_commands.specs.Stages.{Caused, IsLeftToPut, Ran, Announced};
 
+use crate::batch::batch;
 use crate::check::check;
 use crate::decrypt::decrypt;
 use crate::encrypt::encrypt;
@@ -24,7 +26,8 @@ use std::alloc::Global;
 ///
 /// `words` are those of the command line without the program's name. Files are read from the store
 /// and the file OUT is written to it. What a command without a file OUT gives goes to the sink, and
-/// so does the line of an answer other than `Done`.
+/// so does the line of an answer other than `Done`. A batch of commands answers as the first of them
+/// that isn't done.
 pub fn command<S: Store, O: Sink>(
     alloc: Global,
     words: &[String],
@@ -33,6 +36,50 @@ pub fn command<S: Store, O: Sink>(
 ) -> Status
     requires { (S.state store.old).pending ≡ None }
     ensures idle { (S.state store.new).pending ≡ None }
+    ensures counts { NoCountFell (S.state store.old) (S.state store.new) }
+    ensures puts { (O.state out.old).faults ≤ (O.state out.new).faults }
+
+    // what the files say of the answer of one command, and the answer of the files
+    ensures told { form_of (map string_bytes words.now) ≢ Some Form.Batch → ForSome (S.state store.old).files (λ files.
+        Told (map string_bytes words.now) files (S.state store.new).files result) }
+
+    // where no call failed, the answer is what the words and the files lead to
+    ensures complete { form_of (map string_bytes words.now) ≢ Some Form.Batch → ForSome (S.state store.old).files (λ files.
+        NoFaultRose (S.state store.old) (S.state store.new) (O.state out.old) (O.state out.new)
+        → IsComplete (plan.plan (map string_bytes words.now) files) result) }
+
+    // what the files stand for goes the way of the plain machine
+    ensures stands { form_of (map string_bytes words.now) ≢ Some Form.Batch → result ≡ Status.Done
+        → ForSome (S.state store.old).files (λ before. ForSome (S.state store.new).files (λ after.
+        (state : State) → Stands before state → Stands after (step (map string_bytes words.now) state))) }
+    ensures cause { form_of (map string_bytes words.now) ≢ Some Form.Batch
+        → Cause (map string_bytes words.now) (S.state store.old) (S.state store.new) (O.state out.old) (O.state out.new) result }
+    ensures printed { form_of (map string_bytes words.now) ≢ Some Form.Batch
+        → Printed (map string_bytes words.now) (S.state store.old).files (O.state out.old) (O.state out.new) result }
+
+    // and a batch answers as its commands do
+    ensures batch { form_of (map string_bytes words.now) ≡ Some Form.Batch
+        → BatchAnswered (map string_bytes words.now) (record { store = S.state store.old; sink = O.state out.old })
+        (record { store = S.state store.new; sink = O.state out.new }) result }
+{
+    match form_of(words) {
+        Some(Form::Batch) => batch(alloc, words, store, out),
+        _ => single(alloc, words, store, out),
+    }
+}
+
+/// Does what the words of one command ask for, which is no batch.
+pub fn single<S: Store, O: Sink>(
+    alloc: Global,
+    words: &[String],
+    store: &mut S,
+    out: &mut O,
+) -> Status
+    requires one { form_of (map string_bytes words.now) ≢ Some Form.Batch }
+    requires idle { (S.state store.old).pending ≡ None }
+    ensures idle { (S.state store.new).pending ≡ None }
+    ensures counts { NoCountFell (S.state store.old) (S.state store.new) }
+    ensures puts { (O.state out.old).faults ≤ (O.state out.new).faults }
 
     // what the files say of the answer, and the answer of the files
     ensures told { ForSome (S.state store.old).files (λ files.
@@ -68,9 +115,11 @@ fn run<S: Store>(
     store: &mut S,
 ) -> Result<Option<Vec<u8>>, Status>
     requires form { form_of (map string_bytes words.now) ≡ Some form }
+    requires one { form ≢ Form.Batch }
     requires count { HasCount form (length words.now) }
     requires idle { (S.state store.old).pending ≡ None }
     ensures idle { (S.state store.new).pending ≡ None }
+    ensures counts { NoCountFell (S.state store.old) (S.state store.new) }
     ensures told { ForSome (S.state store.old).files (λ files. Ran form (map string_bytes words.now) files (S.state store.new).files result) }
     ensures line { IfOk result (λ left. IsLeftToPut (plan.out_name (Some form) (map string_bytes words.now)) (map string_bytes words.now)
         (S.state store.old).files (option_map (λ v. v.items) left)) }
@@ -89,6 +138,7 @@ fn run<S: Store>(
                 Err(status) => Err(status),
             }
         }
+        Form::Batch => unreachable!(),
     }
 }
 
@@ -104,6 +154,7 @@ fn write_out<S: Store>(
     requires out { IsSome (plan.out_name (Some form) (map string_bytes words.now)) }
     requires idle { (S.state store.old).pending ≡ None }
     ensures idle { (S.state store.new).pending ≡ None }
+    ensures counts { NoCountFell (S.state store.old) (S.state store.new) }
     ensures told { ForSome (S.state store.old).files (λ files. Ran form (map string_bytes words.now) files (S.state store.new).files result) }
     ensures unchanged { OnErr result ((S.state store.new).files ≡ (S.state store.old).files) }
     ensures cause { IfErr result (λ s. Caused (IsOperand form (length (map string_bytes words.now))) (S.state store.old) (S.state store.new) s) }
@@ -114,15 +165,16 @@ fn write_out<S: Store>(
         Form::Encrypt => encrypt(alloc, words, store),
         Form::Run => run_script(alloc, words, store),
         Form::Decrypt => decrypt(alloc, words, store),
-        Form::Check => unreachable!(),
+        Form::Check | Form::Batch => unreachable!(),
     }
 }
 
 /// Puts the line of a status, and answers it unless that put wanted memory.
-fn report<O: Sink>(out: &mut O, words: &[String], status: Status) -> Status
+pub fn report<O: Sink>(out: &mut O, words: &[String], status: Status) -> Status
     requires refused { status ≢ Status.Done }
     requires word { ForSome (parts_of status).word (λ word. word < length words.now) }
     ensures status { (result ≡ status) ⊎ (result ≡ Status.Memory) }
+    ensures puts { (O.state out.old).faults ≤ (O.state out.new).faults }
     ensures printed { (before : Option Files) → Printed (map string_bytes words.now) before (O.state out.old) (O.state out.new) result }
 {
     match put_line(out, words, status) {
@@ -134,7 +186,8 @@ fn report<O: Sink>(out: &mut O, words: &[String], status: Status) -> Status
 
 /// Puts the line of an output, and answers how that went.
 fn announce<O: Sink>(out: &mut O, line: &[u8]) -> Status
-    ensures { Announced (O.state out.old) (O.state out.new) line.now result }
+    ensures announced { Announced (O.state out.old) (O.state out.new) line.now result }
+    ensures puts { (O.state out.old).faults ≤ (O.state out.new).faults }
 {
     match out.put(line) {
         Ok(()) => Status::Done,

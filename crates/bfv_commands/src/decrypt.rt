@@ -14,6 +14,7 @@ ghost use Rattle.cipher_files.specs.Heads.{HeadKeepsRules, wants};
 ghost use Rattle.cipher_files.specs.declared.head.Wanted.TheVariants as wanted;
 ghost use Rattle.command_words.specs.Form.{form_of, IsOperand};
 ghost use Rattle.command_words.specs.declared.form.Form.TheVariants as form;
+ghost use Rattle.command_model.specs.Batches.{NoCountFell};
 ghost use Rattle.command_model.specs.Plan as plan;
 ghost use Rattle.bfv_commands.specs.Operands.{HasContent, Gives};
 ghost use Rattle.bfv_commands.specs.Stages.{Ran, Caused, IsDecryption};
@@ -38,6 +39,7 @@ pub fn decrypt<S: Store>(alloc: Global, words: &[String], store: &mut S) -> Resu
     requires count { length words.now ≡ 4 }
     requires idle { (S.state store.old).pending ≡ None }
     ensures idle { (S.state store.new).pending ≡ None }
+    ensures counts { NoCountFell (S.state store.old) (S.state store.new) }
     ensures told { ForSome (S.state store.old).files (λ files. Ran form.Decrypt (map string_bytes words.now) files (S.state store.new).files result) }
     ensures unchanged { OnErr result ((S.state store.new).files ≡ (S.state store.old).files) }
     ensures cause { IfErr result (λ s. Caused (IsOperand form.Decrypt 4) (S.state store.old) (S.state store.new) s) }

@@ -11,6 +11,7 @@ ghost use Rattle.cipher_files.specs.declared.head.Wanted.TheVariants as wanted;
 ghost use Rattle.command_words.specs.Form.{form_of, IsOperand};
 ghost use Rattle.command_words.specs.Line.{word_at};
 ghost use Rattle.command_words.specs.declared.form.Form.TheVariants as form;
+ghost use Rattle.command_model.specs.Batches.{NoCountFell};
 ghost use Rattle.command_model.specs.Plan as plan;
 ghost use Rattle.bfv_commands.specs.Operands.{HasContent, Gives, AreValues};
 ghost use Rattle.bfv_commands.specs.Encrypted.{IsSealing};
@@ -40,6 +41,7 @@ pub fn encrypt<S: Store>(alloc: Global, words: &[String], store: &mut S) -> Resu
     requires count { length words.now ≡ 5 }
     requires idle { (S.state store.old).pending ≡ None }
     ensures idle { (S.state store.new).pending ≡ None }
+    ensures counts { NoCountFell (S.state store.old) (S.state store.new) }
     ensures told { ForSome (S.state store.old).files (λ files. Ran form.Encrypt (map string_bytes words.now) files (S.state store.new).files result) }
     ensures unchanged { OnErr result ((S.state store.new).files ≡ (S.state store.old).files) }
     ensures cause { IfErr result (λ s. Caused (IsOperand form.Encrypt 5) (S.state store.old) (S.state store.new) s) }
@@ -75,6 +77,7 @@ fn write_sealed<S: Store>(
     requires values { AreValues public.now.set values.now }
     requires idle { (S.state store.old).pending ≡ None }
     ensures idle { (S.state store.new).pending ≡ None }
+    ensures counts { NoCountFell (S.state store.old) (S.state store.new) }
     ensures unchanged { OnErr result ((S.state store.new).files ≡ (S.state store.old).files) }
     ensures told { ForSome (S.state store.old).files (λ files. (content : FileContent)
         → HasContent (map string_bytes words.now) files 1 public.now content
@@ -108,6 +111,7 @@ fn write_of_degree<S: Store, const N: usize>(
     requires values { AreValues public.now.set values.now }
     requires idle { (S.state store.old).pending ≡ None }
     ensures idle { (S.state store.new).pending ≡ None }
+    ensures counts { NoCountFell (S.state store.old) (S.state store.new) }
     ensures unchanged { OnErr result ((S.state store.new).files ≡ (S.state store.old).files) }
     ensures told { ForSome (S.state store.old).files (λ files. (content : FileContent)
         → HasContent (map string_bytes words.now) files 1 public.now content

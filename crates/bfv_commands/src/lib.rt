@@ -3,6 +3,7 @@
 #![tactic(auto)]
 
 mod answer;
+mod batch;
 mod bindings;
 mod bound_files;
 mod check;

@@ -14,6 +14,7 @@ ghost use Rattle.cipher_files.specs.declared.head.Wanted.TheVariants as wanted;
 ghost use Rattle.command_words.specs.Form.{form_of, IsOperand};
 ghost use Rattle.command_words.specs.Line.{word_at};
 ghost use Rattle.command_words.specs.declared.form.Form.TheVariants as form;
+ghost use Rattle.command_model.specs.Batches.{NoCountFell};
 ghost use Rattle.command_model.specs.Plan as plan;
 ghost use Rattle.bfv_commands.specs.Operands.{HasContent, Gives};
 ghost use Rattle.bfv_commands.specs.Stages.{Ran, Wrote, Caused};
@@ -41,6 +42,7 @@ pub fn public<S: Store>(alloc: Global, words: &[String], store: &mut S) -> Resul
     requires count { length words.now ≡ 4 }
     requires idle { (S.state store.old).pending ≡ None }
     ensures idle { (S.state store.new).pending ≡ None }
+    ensures counts { NoCountFell (S.state store.old) (S.state store.new) }
     ensures told { ForSome (S.state store.old).files (λ files. Ran form.Public (map string_bytes words.now) files (S.state store.new).files result) }
     ensures unchanged { OnErr result ((S.state store.new).files ≡ (S.state store.old).files) }
     ensures cause { IfErr result (λ s. Caused (IsOperand form.Public 4) (S.state store.old) (S.state store.new) s) }
@@ -69,6 +71,7 @@ fn write_drawn<S: Store>(
     requires kind { wants wanted.Secret secret.now.kind ≡ true }
     requires idle { (S.state store.old).pending ≡ None }
     ensures idle { (S.state store.new).pending ≡ None }
+    ensures counts { NoCountFell (S.state store.old) (S.state store.new) }
     ensures unchanged { OnErr result ((S.state store.new).files ≡ (S.state store.old).files) }
     ensures told { ForSome (S.state store.old).files (λ files. (content : FileContent)
         → HasContent (map string_bytes words.now) files 1 secret.now content
@@ -100,6 +103,7 @@ fn write_of_degree<S: Store, const N: usize>(
     requires degree { N ≡ degree_of secret.now.set }
     requires idle { (S.state store.old).pending ≡ None }
     ensures idle { (S.state store.new).pending ≡ None }
+    ensures counts { NoCountFell (S.state store.old) (S.state store.new) }
     ensures unchanged { OnErr result ((S.state store.new).files ≡ (S.state store.old).files) }
     ensures told { ForSome (S.state store.old).files (λ files. (content : FileContent)
         → HasContent (map string_bytes words.now) files 1 secret.now content

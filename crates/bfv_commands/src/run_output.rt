@@ -14,6 +14,7 @@ ghost use Rattle.command_words.specs.Line.{word_at};
 ghost use Rattle.command_words.specs.declared.form.Form.TheVariants as form;
 ghost use Rattle.command_model.specs.Bindings as bindings;
 ghost use Rattle.command_model.specs.Plan as plan;
+ghost use Rattle.command_model.specs.Batches.{NoCountFell};
 ghost use Rattle.bfv_commands.specs.BoundFiles.{AreHeld, AreOperands, MayBeBound};
 ghost use Rattle.bfv_commands.specs.Filled.{AreListed, IsListed};
 ghost use Rattle.bfv_commands.specs.Ordered.{CanRunOn};
@@ -50,6 +51,7 @@ pub fn write_run<S: Store>(
     requires matched { CanRunOn script.now (map string_bytes words.now) operands.now }
     requires idle { (S.state store.old).pending ≡ None }
     ensures idle { (S.state store.new).pending ≡ None }
+    ensures counts { NoCountFell (S.state store.old) (S.state store.new) }
     ensures unchanged { OnErr result ((S.state store.new).files ≡ (S.state store.old).files) }
     ensures told { ForSome (S.state store.old).files (λ files. plan.script_operand (map string_bytes words.now) files 1 ≡ Ok script.now
         → plan.unbuilt script.now ≡ None → AreMatched (map string_bytes words.now) files script.now operands.now
@@ -167,6 +169,7 @@ fn write_output<S: Store>(
     requires room { LeavesRoom script.now (numbers (bounds_of ciphers.now)) head.now.bound }
     requires idle { (S.state store.old).pending ≡ None }
     ensures idle { (S.state store.new).pending ≡ None }
+    ensures counts { NoCountFell (S.state store.old) (S.state store.new) }
     ensures unchanged { OnErr result ((S.state store.new).files ≡ (S.state store.old).files) }
     ensures told { ForSome (S.state store.old).files (λ files. (contents : List FileContent) (plains : List (List ℕ))
         → AreHeld (map string_bytes words.now) files ciphers.now contents → AreOfKey contents head.now.id → AreListed operands.now places.now plains
@@ -212,6 +215,7 @@ fn write_of_degree<S: Store, const N: usize>(
     requires room { LeavesRoom script.now (numbers (bounds_of ciphers.now)) head.now.bound }
     requires idle { (S.state store.old).pending ≡ None }
     ensures idle { (S.state store.new).pending ≡ None }
+    ensures counts { NoCountFell (S.state store.old) (S.state store.new) }
     ensures unchanged { OnErr result ((S.state store.new).files ≡ (S.state store.old).files) }
     ensures told { ForSome (S.state store.old).files (λ files. (contents : List FileContent) (plains : List (List ℕ))
         → AreHeld (map string_bytes words.now) files ciphers.now contents → AreOfKey contents head.now.id → AreListed operands.now places.now plains

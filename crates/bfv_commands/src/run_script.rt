@@ -7,6 +7,7 @@ ghost use Rattle.script_text.specs.Scripts.{is_linear};
 ghost use Rattle.command_words.specs.Form.{form_of, IsOperand};
 ghost use Rattle.command_words.specs.declared.form.Form.TheVariants as form;
 ghost use Rattle.command_model.specs.Plan as plan;
+ghost use Rattle.command_model.specs.Batches.{NoCountFell};
 ghost use Rattle.bfv_commands.specs.BoundReads.{FitInputs};
 ghost use Rattle.bfv_commands.specs.Demands.{CiphersFit};
 ghost use Rattle.bfv_commands.specs.RunStages.{RefusedInRun, AreMatched};
@@ -30,6 +31,7 @@ pub fn run_script<S: Store>(alloc: Global, words: &[String], store: &mut S) -> R
     requires high { length words.now ≤ 1000 }
     requires idle { (S.state store.old).pending ≡ None }
     ensures idle { (S.state store.new).pending ≡ None }
+    ensures counts { NoCountFell (S.state store.old) (S.state store.new) }
     ensures told { ForSome (S.state store.old).files (λ files. Ran form.Run (map string_bytes words.now) files (S.state store.new).files result) }
     ensures unchanged { OnErr result ((S.state store.new).files ≡ (S.state store.old).files) }
     ensures cause { IfErr result (λ s. Caused (IsOperand form.Run (length (map string_bytes words.now))) (S.state store.old) (S.state store.new) s) }

@@ -9,6 +9,7 @@ ghost use Rattle.cipher_files.specs.Contents.{secret_words};
 ghost use Rattle.cipher_files.specs.Heads.{HeadKeepsRules, content_with};
 ghost use Rattle.command_words.specs.Form.{form_of, IsOperand};
 ghost use Rattle.command_words.specs.declared.form.Form.TheVariants as form;
+ghost use Rattle.command_model.specs.Batches.{NoCountFell};
 ghost use Rattle.command_model.specs.Plan as plan;
 ghost use Rattle.bfv_commands.specs.Stages.{Ran, Wrote, Caused};
 
@@ -32,6 +33,7 @@ pub fn secret<S: Store>(alloc: Global, words: &[String], store: &mut S) -> Resul
     requires count { length words.now ≡ 4 }
     requires idle { (S.state store.old).pending ≡ None }
     ensures idle { (S.state store.new).pending ≡ None }
+    ensures counts { NoCountFell (S.state store.old) (S.state store.new) }
     ensures told { ForSome (S.state store.old).files (λ files. Ran form.Secret (map string_bytes words.now) files (S.state store.new).files result) }
     ensures unchanged { OnErr result ((S.state store.new).files ≡ (S.state store.old).files) }
     ensures cause { IfErr result (λ s. Caused (IsOperand form.Secret 4) (S.state store.old) (S.state store.new) s) }
@@ -56,6 +58,7 @@ fn write_drawn<S: Store>(
 ) -> Result<(), Status>
     requires idle { (S.state store.old).pending ≡ None }
     ensures idle { (S.state store.new).pending ≡ None }
+    ensures counts { NoCountFell (S.state store.old) (S.state store.new) }
     ensures unchanged { OnErr result ((S.state store.new).files ≡ (S.state store.old).files) }
     ensures told { ForSome (S.state store.old).files (λ files. Wrote name.now files (S.state store.new).files
         (λ bytes. bytes ≡ file_text (drawn_secret_file set (plan.seed_word seed.now))) result) }
@@ -80,6 +83,7 @@ fn write_of_degree<S: Store, const N: usize>(
     requires degree { N ≡ degree_of set }
     requires idle { (S.state store.old).pending ≡ None }
     ensures idle { (S.state store.new).pending ≡ None }
+    ensures counts { NoCountFell (S.state store.old) (S.state store.new) }
     ensures unchanged { OnErr result ((S.state store.new).files ≡ (S.state store.old).files) }
     ensures told { ForSome (S.state store.old).files (λ files. Wrote name.now files (S.state store.new).files
         (λ bytes. bytes ≡ file_text (drawn_secret_file set (plan.seed_word seed.now))) result) }

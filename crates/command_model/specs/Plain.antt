@@ -138,6 +138,7 @@ item_made form.Encrypt words state = sealed_under (state (word_at words 1)) (sta
 item_made form.Run words state = ran words state (state (word_at words 1))
 item_made form.Decrypt words state = opened (state (word_at words 1)) (state (word_at words 2))
 item_made form.Check words state = None
+item_made form.Batch words state = None
 
 -- the state with the item of this name, where one is named
 abbrev pub with_item_at : State → Option (List ℕ) → Option Item → State

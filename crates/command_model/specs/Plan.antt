@@ -23,6 +23,7 @@ use Rattle.script_text.specs.Reading.{values_of}
 use Rattle.script_text.specs.Scripts.{Script, needs_of, parts_of, is_linear}
 use Rattle.script_text.specs.Grammar.{script_of}
 use Rattle.script_text.specs.Values.{printed_values}
+use Rattle.batch_text.specs.Commands.{commands_of}
 use Rattle.noise_check.specs.declared.verdict.Verdict.{Verdict}
 use Rattle.noise_check.specs.declared.verdict.Verdict.TheVariants as verdict
 use Rattle.noise_check.specs.Verdicts.{fresh_bounds, verdict_of}
@@ -124,6 +125,8 @@ pub data Output : Type 0 where
   values : (secret cipher : FileContent) → Output
   -- the noise bound of what an accepted script puts out
   accepted : (bound : Bound) → Output
+  -- the commands of a batch, each with its words, which are then run
+  commands : (listed : List (List (List ℕ))) → Output
 
 -- the set that a word names; words that have a form name one where a set is wanted
 abbrev pub set_operand : Option SetName → Result SetName Status
@@ -257,6 +260,19 @@ plan_of_run words files =
     and_then (script_operand words files 1) (λ script. unless (unbuilt script) (unless (badly_bound script words)
     (and_then (operands_from script files 3 (bindings_of words)) (run_on script (bound_names words)))))
 
+abbrev pub batch_or_fault : Result (List (List (List ℕ))) ScriptPlace → Result Output Status
+batch_or_fault (Ok listed) = Ok (commands listed)
+batch_or_fault (Err fault) = Err (BadScript fault)
+
+-- the commands of a text
+abbrev pub taken_batch : ℕ → Option (List ℕ) → Result Output Status
+taken_batch word None = Err (MissingFile word)
+taken_batch word (Some bytes) = batch_or_fault (commands_of bytes)
+
+-- `batch FILE`, before the first of its commands
+abbrev pub plan_of_batch : List (List ℕ) → Files → Result Output Status
+plan_of_batch words files = taken_batch 1 (file files (word_at words 1))
+
 abbrev pub plan_of_form : Option Form → List (List ℕ) → Files → Result Output Status
 plan_of_form None words files = Err Usage
 plan_of_form (Some form.Secret) words files = plan_of_secret words files
@@ -265,6 +281,7 @@ plan_of_form (Some form.Encrypt) words files = plan_of_encrypt words files
 plan_of_form (Some form.Run) words files = plan_of_run words files
 plan_of_form (Some form.Decrypt) words files = plan_of_decrypt words files
 plan_of_form (Some form.Check) words files = plan_of_check words files
+plan_of_form (Some form.Batch) words files = plan_of_batch words files
 
 -- what the words and the files lead to. An `Err` is the refusal: the first test that fails, in the order of reading.
 abbrev pub plan : List (List ℕ) → Files → Result Output Status
@@ -287,6 +304,7 @@ IsReached (Some form.Encrypt) words files word = (1 < word → IsOk (operand wor
 IsReached (Some form.Run) words files word = 1 < word → IsBindingReached words files word
 IsReached (Some form.Decrypt) words files word = 1 < word → IsOk (operand words files Secret 1)
 IsReached (Some form.Check) words files word = Unit {0}
+IsReached (Some form.Batch) words files word = Unit {0}
 
 -- the bytes are the printed text of n values below t
 pub record IsValuesText (set : SetName) (bytes : List ℕ) : Type 0 where
@@ -329,6 +347,7 @@ IsWritten (sealing public listed seed) bytes = IsFreshCipher public listed seed 
 IsWritten (running run) bytes = IsRunFile run bytes
 IsWritten (values secret cipher) bytes = IsValuesText cipher.set bytes
 IsWritten (accepted bound) bytes = bytes ≡ accepted_text bound
+IsWritten (commands listed) bytes = ⊥
 
 -- the name of the file OUT, where the form has one
 abbrev pub out_name : Option Form → List (List ℕ) → Option (List ℕ)

@@ -1,12 +1,10 @@
 -- Words as strings and as lists of bytes.
-use Rattle.std.proofs.Common.{◌≡◌, ◌≢◌, ◌<◌, ◌≤◌, inl, inr, Bool, true, false, ◌||◌, ℕ, List, [], ◌∷◌, ◌++◌, map, refl, sym, ap, subst, arith, append-nil, length, get_or, ◌&&◌, nat_le, ◌-◌, take, drop, suc, zero}
+use Rattle.std.proofs.Common.{◌≡◌, ◌≢◌, ◌<◌, ◌≤◌, inl, inr, Bool, true, false, ◌||◌, ℕ, List, [], ◌∷◌, ◌++◌, map, refl, sym, ap, subst, arith, append-nil, length, get_or, ◌&&◌, nat_le, ◌-◌, take, drop}
 use Rattle.std.specs.Prelude.{◌↔◌, String, Option, Some, None, is_some, codes, if◌then◌else◌}
 use Rattle.std.specs.Str.{bytes_eq}
 use Rattle.std.proofs.lemmas.Slice.Eq.{bytes_eq-Decides}
-use Rattle.std.proofs.lemmas.Option.{unwrap_or-slice_get}
 use Rattle.std.proofs.lemmas.List.{length-map}
 use Rattle.std.proofs.Math.Seq.{take-length}
-use Rattle.std.proofs.lemmas.List.Sums.{AllPass-from_list_all}
 use Rattle.std.proofs.lemmas.List.Folds.{list_all-map}
 use Rattle.std.specs.List.{list_any, list_all}
 use Rattle.std.specs.String.{string_bytes}
@@ -17,7 +15,7 @@ use Rattle.set_table.specs.Sets.{name_of}
 use Rattle.command_words.specs.Form.{has_empty_word, form_of, form_of_three, form_of_full_words, set_named, is_binding, is_run, HasCount, IsOperand}
 use Rattle.command_words.specs.Line.{text_about, word_at}
 use Rattle.command_words.specs.declared.form.Form.{Form}
-use Rattle.command_words.specs.declared.form.Form.TheVariants.{Secret, Public, Encrypt, Run, Decrypt, Check}
+use Rattle.command_words.specs.declared.form.Form.TheVariants.{Secret, Public, Encrypt, Run, Decrypt, Check, Batch}
 
 -- one of the strings passes a test of bytes exactly where one of the words does
 pub list_any-map : (test : List ℕ → Bool) (words : List (String Global)) → list_any test (map string_bytes words) ≡ list_any (λ word. test (string_bytes word)) words
@@ -62,6 +60,7 @@ operand_below Run word count is (inr binding) = binding.1
 operand_below Decrypt word count is (inl first) = omega arith
 operand_below Decrypt word count is (inr second) = omega arith
 operand_below Check word count is first = omega arith
+operand_below Batch word count is first = omega arith
 
 -- a text about a word begins with the text
 pub text_about-split : (words : List (List ℕ)) (text : List ℕ) (whole : Bool) (word : Option ℕ) → text_about words text whole word ≡ text ++ text_about words [] whole word
@@ -95,7 +94,7 @@ named_set name (Some set) is = sym (subst (λ (n : List ℕ). set_named n ≡ So
 named_set name None is = sym (no_set_named name (λ set same. let never : None ≡ Some set = (is set).1 same in absurd (cc)))
 
 -- the form of words that are not those of `run`
-form_without_run : (words : List (List ℕ)) (form : Form) → form ≢ Run → form_of words ≡ Some form → form_of_full_words words ≡ Some form
+pub form_without_run : (words : List (List ℕ)) (form : Form) → form ≢ Run → form_of words ≡ Some form → form_of_full_words words ≡ Some form
 form_without_run words form other is = cases (has_empty_word words) (is_run words) is
   where
     cases : (empty run : Bool) → (if empty then None else (if run then Some Run else form_of_full_words words)) ≡ Some form → form_of_full_words words ≡ Some form
@@ -123,78 +122,18 @@ secret_names_set words is = of_full words (form_without_run words Secret (λ sam
     of_three first true public decrypt is = of_set (set_named first) is
     of_three first false public decrypt is = absurd (of_two public decrypt is)
 
-    of_one : (test : Bool) → (if test then Some Check else None) ≡ Some Secret → ⊥
-    of_one true is = cc
-    of_one false is = cc
+    of_one : (test other : Bool) → (if test then Some Check else (if other then Some Batch else None)) ≡ Some Secret → ⊥
+    of_one true other is = cc
+    of_one false true is = cc
+    of_one false false is = cc
 
     of_four : (test : Bool) → (if test then Some Encrypt else None) ≡ Some Secret → ⊥
     of_four true is = cc
     of_four false is = cc
 
     of_full : (ws : List (List ℕ)) → form_of_full_words ws ≡ Some Secret → (set : SetName) × (set_named (word_at ws 1) ≡ Some set)
-    of_full (command ∷ first ∷ []) is = absurd (of_one (bytes_eq command (codes "check")) is)
+    of_full (command ∷ first ∷ []) is = absurd (of_one (bytes_eq command (codes "check")) (bytes_eq command (codes "batch")) is)
     of_full (command ∷ first ∷ second ∷ third ∷ []) is =
         of_three first (bytes_eq command (codes "secret")) (bytes_eq command (codes "public")) (bytes_eq command (codes "decrypt")) is
     of_full (command ∷ first ∷ second ∷ third ∷ fourth ∷ []) is = absurd (of_four (bytes_eq command (codes "encrypt")) is)
     of_full _ is = absurd (cc)
-
--- words that are told by the first of them and by their number have not the form of `run`
-full_words_not_run : (words : List (List ℕ)) → form_of_full_words words ≢ Some Run
-unfolding form_of_three
-full_words_not_run (command ∷ first ∷ []) is = of_one (bytes_eq command (codes "check")) is
-  where
-    of_one : (test : Bool) → (if test then Some Check else None) ≢ Some Run
-    of_one true is = cc
-    of_one false is = cc
-full_words_not_run (command ∷ first ∷ second ∷ third ∷ []) is =
-    of_three (bytes_eq command (codes "secret")) (is_some (set_named first)) (bytes_eq command (codes "public")) (bytes_eq command (codes "decrypt")) is
-  where
-    of_three : (secret set public decrypt : Bool)
-        → (if secret then (if set then Some Secret else None) else (if public then Some Public else (if decrypt then Some Decrypt else None))) ≢ Some Run
-    of_three true true public decrypt is = cc
-    of_three true false public decrypt is = cc
-    of_three false set true decrypt is = cc
-    of_three false set false true is = cc
-    of_three false set false false is = cc
-full_words_not_run (command ∷ first ∷ second ∷ third ∷ fourth ∷ []) is = of_four (bytes_eq command (codes "encrypt")) is
-  where
-    of_four : (test : Bool) → (if test then Some Encrypt else None) ≢ Some Run
-    of_four true is = cc
-    of_four false is = cc
-full_words_not_run _ is = cc
-
--- words of the form `run` are its words
-pub run_is : (words : List (List ℕ)) → form_of words ≡ Some Run → is_run words ≡ true
-run_is words is = cases (has_empty_word words) (is_run words) is
-  where
-    cases : (empty run : Bool) → (if empty then None else (if run then Some Run else form_of_full_words words)) ≡ Some Run → run ≡ true
-    cases true run is = absurd (cc)
-    cases false true is = refl
-    cases false false is = absurd (full_words_not_run words is)
-
--- where all words are bindings, so is each of them
-binding_among : (words : List (List ℕ)) (w : ℕ) → list_all is_binding words ≡ true → w < length words → is_binding (word_at words w) ≡ true
-binding_among words w all below =
-    rw (unwrap_or-slice_get words w []) (AllPass-from_list_all is_binding words all w [] below)
-
--- each word of `run` from number 3 on is a binding
-pub binding_at : (words : List (List ℕ)) → form_of words ≡ Some Run → (w : ℕ) → 3 ≤ w → w < length words → is_binding (word_at words w) ≡ true
-binding_at words is w least below = among words w least below (run_is words is)
-  where
-    second : (a b : Bool) → (a && b) ≡ true → b ≡ true
-    second true b is = is
-    second false b is = absurd (cc)
-
-    third : (a b c : Bool) → (a && (b && c)) ≡ true → c ≡ true
-    third a b c is = second b c (second a (b && c) is)
-
-    among : (words : List (List ℕ)) (w : ℕ) → 3 ≤ w → w < length words → is_run words ≡ true → is_binding (word_at words w) ≡ true
-    among (command ∷ script ∷ out ∷ bindings) (suc (suc (suc w))) least below is =
-        let all = third (bytes_eq command (codes "run")) (nat_le (length bindings) 997) (list_all is_binding bindings) is in
-        binding_among bindings w all (omega arith)
-    among _ zero least below is = absurd (omega arith)
-    among _ (suc zero) least below is = absurd (omega arith)
-    among _ (suc (suc zero)) least below is = absurd (omega arith)
-    among [] (suc (suc (suc w))) least below is = absurd (cc)
-    among (_ ∷ []) (suc (suc (suc w))) least below is = absurd (cc)
-    among (_ ∷ _ ∷ []) (suc (suc (suc w))) least below is = absurd (cc)

@@ -7,7 +7,7 @@ use Rattle.set_table.specs.declared.SetName.TheVariants.{One16, Toy16, S4096, S8
 use Rattle.set_table.specs.Sets.{name_of}
 use Rattle.script_text.specs.Names.{is_name}
 use Rattle.command_words.specs.declared.form.Form.{Form}
-use Rattle.command_words.specs.declared.form.Form.TheVariants.{Secret, Public, Encrypt, Run, Decrypt, Check}
+use Rattle.command_words.specs.declared.form.Form.TheVariants.{Secret, Public, Encrypt, Run, Decrypt, Check, Batch}
 
 -- one of the words is empty
 abbrev pub has_empty_word : List (List ℕ) → Bool
@@ -15,7 +15,7 @@ has_empty_word words = list_any (λ word. length word == 0) words
 
 -- the form of one word behind a command's name
 abbrev pub form_of_one : List ℕ → Option Form
-form_of_one command = if bytes_eq command (codes "check") then Some Check else None
+form_of_one command = if bytes_eq command (codes "check") then Some Check else (if bytes_eq command (codes "batch") then Some Batch else None)
 
 -- the set of this name, if there is one
 unfoldable pub set_named : List ℕ → Option SetName
@@ -68,6 +68,7 @@ form_of words = if has_empty_word words then None else (if is_run words then Som
 abbrev pub HasCount : Form → ℕ → Type 0
 HasCount Encrypt count = count ≡ 5
 HasCount Check count = count ≡ 2
+HasCount Batch count = count ≡ 2
 HasCount Run count = (3 ≤ count) × (count ≤ 1000)
 HasCount _ count = count ≡ 4
 
@@ -79,10 +80,12 @@ IsOperand Encrypt count word = (word ≡ 1) ⊎ (word ≡ 2) ⊎ (word ≡ 3)
 IsOperand Run count word = (word ≡ 1) ⊎ ((3 ≤ word) × (word < count))
 IsOperand Decrypt count word = (word ≡ 1) ⊎ (word ≡ 2)
 IsOperand Check count word = word ≡ 1
+IsOperand Batch count word = word ≡ 1
 
 -- the number of the word that names the file OUT, where a form writes one
 abbrev pub out_word : Form → Option ℕ
 out_word Encrypt = Some 4
 out_word Run = Some 2
 out_word Check = None
+out_word Batch = None
 out_word _ = Some 3

@@ -23,6 +23,8 @@ pub enum Form {
     Decrypt,
     /// `check SCRIPT` prints the noise bound of what a script puts out.
     Check,
+    /// `batch FILE` runs the commands of a text in order.
+    Batch,
 }
 
 /// The form of the words, and `None` where they have none.
@@ -106,10 +108,12 @@ fn form_of_one(command: &str) -> Option<Form>
     ensures count { IfSome result (λ f. form.HasCount f 2) }
 {
     if command == "check" {
-        Some(Form::Check)
-    } else {
-        None
+        return Some(Form::Check);
     }
+    if command == "batch" {
+        return Some(Form::Batch);
+    }
+    None
 }
 
 #[tactic(auto, unfolding(crate::specs::Form::form_of_three))]

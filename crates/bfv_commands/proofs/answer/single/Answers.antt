@@ -10,7 +10,7 @@ use Rattle.bfv_commands.specs.Stages.{Announced, AreWritten}
 use Rattle.bfv_commands.proofs.Answering.{answer_apart, cause_of_refusal, complete_answer}
 use Rattle.bfv_commands.proofs.Outputs.{told_announced, told_done, told_refused}
 use Rattle.bfv_commands.proofs.Standing.{stands_after}
-use Rattle.bfv_commands.proofs.answer.command.Goals as goal
+use Rattle.bfv_commands.proofs.answer.single.Goals as goal
 
 pub report-requires-clause-word : goal.report-requires-clause-word
 report-requires-clause-word g c = λ word at.
@@ -38,7 +38,7 @@ returns-in-Ok-Some-clause-told g c = λ files told.
     let line = rw c.in-Ok-Some.field-0-is at c.in-Ok-Some.ensures.line in
     let old = g.O.Sink.state c.args.out.now in
     let new = g.O.Sink.state c.announce.new.out in
-    let put = subst (λ (text : List ℕ). Announced old new text c.announce.result) c.deref.ensures.value c.announce.ensures in
+    let put = subst (λ (text : List ℕ). Announced old new text c.announce.result) c.deref.ensures.value c.announce.ensures.announced in
     told_announced c.in-Some.form words _ files _ old new c.in-Ok-Some.line.items c.announce.result told line (c.in-Ok-Some.ensures.told files told).ok put
 
 pub returns-in-Err-clause-told : goal.returns-in-Err-clause-told
