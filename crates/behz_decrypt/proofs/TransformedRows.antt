@@ -6,7 +6,7 @@ use Rattle.std.proofs.lemmas.Int.{ints}
 use Rattle.std.proofs.lemmas.List.{get_or-map, length-map}
 use Rattle.std.proofs.lemmas.Option.{get_or_from_slice_get, slice_get-get_or, slice_get_within}
 use Rattle.set_table.specs.declared.SetName.{SetName}
-use Rattle.set_table.specs.Sets.{degree_of, transform_moduli_of}
+use Rattle.set_table.specs.Sets.{degree_of, log_degree_of, transform_moduli_of}
 use Rattle.set_table.specs.Roots.{root_of}
 use Rattle.ring_law.specs.Polynomials.{CongruentPolynomials, ring_product, ring_sum}
 use Rattle.ring_law.specs.Residues.{Congruent}
@@ -19,7 +19,7 @@ use Rattle.neg_ntt.specs.Parameters.{IsTransformBy, Parameters}
 use Rattle.rns_poly.specs.Rows.{AreReduced, EachRepresents, entrywise_product}
 use Rattle.rns_poly.specs.Transforms.{AreTransforms, moduli_of}
 use Rattle.res_base.proofs.Roots.{IsSome-root_of, root_of-below, root_of-power}
-use Rattle.bfv_params.specs.Transforms.{log_degree_of, transform_of}
+use Rattle.bfv_params.specs.Transforms.{transform_of}
 use Rattle.bfv_params.proofs.Parts.{moduli_of_transforms}
 use Rattle.bfv_params.proofs.Tables.{degree_of-power}
 

@@ -5,7 +5,8 @@ use Rattle.ring_law.specs.Polynomials.{ring_turn}
 use Rattle.ring_law.specs.Residues.{Congruent}
 use Rattle.ring_law.specs.Sums.{values_below}
 use Rattle.ring_law.proofs.Values.{get_or-values_below, length-values_below, values_below-get_or}
-use Rattle.bfv_model.specs.Slots.{exchanged, slot, slots, turned_left}
+use Rattle.ring_law.specs.Lists.{exchanged, turned_left}
+use Rattle.bfv_model.specs.Slots.{slot, slots}
 use Rattle.bfv_model.proofs.SlotLaws.{slot-swap_first, slot-swap_second, slot-turn_first, slot-turn_second}
 use Rattle.bfv_model.proofs.SlotPowers.{InHalf, half_of_slot, in_first, in_second}
 

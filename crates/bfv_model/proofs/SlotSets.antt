@@ -10,7 +10,8 @@ use Rattle.ring_law.specs.Rows.{natural_polynomial}
 use Rattle.ring_law.proofs.Congruence.{Congruent-equal, Congruent-sym, Congruent-trans}
 use Rattle.ring_law.proofs.Residues.{Congruent-mod}
 use Rattle.ring_law.proofs.Values.{get_or-values_below, length-values_below, values_below-get_or}
-use Rattle.bfv_model.specs.Slots.{exchanged, slot, slots, slots_of, turned_left}
+use Rattle.ring_law.specs.Lists.{exchanged, turned_left}
+use Rattle.bfv_model.specs.Slots.{slot, slots, slots_of}
 use Rattle.bfv_model.proofs.ProductIdentity.{values}
 use Rattle.bfv_model.proofs.SlotLaws.{plaintext_once, plaintext_with, plaintext_with_lt, slot-plaintext_with, slot-ring_negative, slot-ring_product, slot-ring_sum, slot_congruent}
 use Rattle.bfv_model.proofs.SlotLists.{slots-swap, slots-turn}

@@ -1,5 +1,5 @@
 -- The slots of a plaintext: its values at the odd powers of a root, in the order that turns both halves at once.
-use Rattle.std.specs.Prelude.{ℕ, ◌+◌, ◌-◌, ◌*◌, ◌/◌, ◌%◌, ◌^◌, ℤ, List, slice_index, nat_lt, if◌then◌else◌}
+use Rattle.std.specs.Prelude.{ℕ, ◌-◌, ◌*◌, ◌/◌, ◌%◌, ◌^◌, ℤ, List, nat_lt, if◌then◌else◌}
 use Rattle.set_table.specs.declared.SetName.{SetName}
 use Rattle.set_table.specs.Sets.{degree_of, plain_of}
 use Rattle.set_table.specs.Roots.{plain_root_of}
@@ -26,11 +26,3 @@ slots_of set m = slots (degree_of set) (plain_of set) (plain_root_of set) m
 -- the entry of the transform of a plaintext that is its slot i, where n is 2^k
 unfoldable pub slot_place : ℕ → ℕ → ℕ
 slot_place k i = bit_reversal k (slot_power (2 ^ k) i % (2 * 2 ^ k) / 2)
-
--- both halves of a list turned left by `step`, each half having so many values
-unfoldable pub turned_left : ℕ → ℕ → List ℕ → List ℕ
-turned_left half step values = values_below (half + half) (λ i. slice_index values (i / half * half + (i % half + step) % half))
-
--- the two halves of a list in each other's place
-unfoldable pub exchanged : ℕ → List ℕ → List ℕ
-exchanged half values = values_below (half + half) (λ i. slice_index values ((i + half) % (half + half)))

@@ -4,7 +4,8 @@ ghost use Rattle.set_table.specs.declared.SetName.{SetName};
 ghost use Rattle.set_table.specs.Sets.{degree_of, plain_of};
 ghost use Rattle.ring_law.specs.Polynomials.{ring_sum, ring_product, ring_turn};
 ghost use Rattle.ring_law.specs.Rows.{natural_polynomial};
-ghost use Rattle.bfv_model.specs.Slots.{slots_of, turned_left, exchanged};
+ghost use Rattle.ring_law.specs.Lists.{turned_left, exchanged};
+ghost use Rattle.bfv_model.specs.Slots.{slots_of};
 
 /// In each set the slots of a sum and of a product are the sums and the products of the slots, the
 /// turn by a power of 3 turns both halves left, and the turn by `2n - 1` exchanges them.

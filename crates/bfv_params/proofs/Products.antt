@@ -7,7 +7,7 @@ use Rattle.std.proofs.lemmas.List.{get_or-take, get_or_append_left, length-map}
 use Rattle.word_mod.specs.Moduli.{IsModulus}
 use Rattle.set_table.specs.declared.SetName.{SetName}
 use Rattle.set_table.specs.declared.SetName.TheVariants.{One16, Toy16, S4096, S8192, S16384}
-use Rattle.set_table.specs.Sets.{degree_of, data_of, list_of, special_of, transform_moduli_of}
+use Rattle.set_table.specs.Sets.{degree_of, log_degree_of, data_of, list_of, special_of, transform_moduli_of}
 use Rattle.set_table.specs.Roots.{root_of}
 use Rattle.ring_law.specs.Polynomials.{ring_product}
 use Rattle.ring_law.specs.Transform.{bit_reversal, evaluation, transform_entry}
@@ -21,7 +21,7 @@ use Rattle.res_base.proofs.Bases.{IsModulus-from_IsBase}
 use Rattle.res_base.proofs.Sizes.{IsBase-data_of}
 use Rattle.res_base.proofs.Roots.{IsSome-root_of, root_of-below, root_of-power}
 use Rattle.bfv_params.specs.Moduli.{data_at}
-use Rattle.bfv_params.specs.Transforms.{log_degree_of, transform_of}
+use Rattle.bfv_params.specs.Transforms.{transform_of}
 use Rattle.bfv_params.proofs.Tables.{degree_of-limit, degree_of-power, key_listed}
 use Rattle.bfv_params.proofs.Parts.{moduli_of_transforms}
 

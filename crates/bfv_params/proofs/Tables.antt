@@ -5,11 +5,11 @@ use Rattle.std.proofs.lemmas.Nat.{pow_below}
 use Rattle.std.proofs.lemmas.List.Elements.{All-append, All-cons, All-contains_itself, All-nil, All-take, All-weaker, Contains-append_left, Contains-append_right}
 use Rattle.set_table.specs.declared.SetName.{SetName}
 use Rattle.set_table.specs.declared.SetName.TheVariants.{One16, Toy16, S4096, S8192, S16384}
-use Rattle.set_table.specs.Sets.{degree_of, data_of, key_of, aux_of, plain_of, special_of, list_of, m_sk, transform_moduli_of}
+use Rattle.set_table.specs.Sets.{degree_of, log_degree_of, data_of, key_of, aux_of, plain_of, special_of, list_of, m_sk, transform_moduli_of}
 use Rattle.set_table.specs.Roots.{root_of}
 use Rattle.neg_ntt.specs.Parameters.{Parameters}
 use Rattle.bfv_params.specs.Moduli.{data_at, key_at, wide_of}
-use Rattle.bfv_params.specs.Transforms.{log_degree_of, transform_of}
+use Rattle.bfv_params.specs.Transforms.{transform_of}
 
 -- ---- degrees and plaintext moduli
 pub degree_of-limit : (set : SetName) → degree_of set ≤ 32768

@@ -4,3 +4,4 @@ pub mod Moduli
 pub mod Polynomials
 pub mod Rows
 pub mod Transform
+pub mod Lists

@@ -112,7 +112,6 @@ pub fn scale_each<const N: usize>(moduli: &[Modulus], factors: &[u64], rows: Vie
     requires degree { N ≤ 32768 }
     requires factors_length { length factors.now ≡ length moduli.now }
     requires rows_length { length rows.old ≡ length moduli.now }
-    requires rows_reduced { AreReduced N moduli.now rows.old }
     ensures represents { (x : ℕ → ℕ → ℤ) → EachRepresents N moduli.now rows.old x →
         EachRepresents N moduli.now rows.new (λ i. multiple (slice_index factors.now i) (x i)) }
     ensures reduced { AreReduced N moduli.now rows.new }

@@ -3,7 +3,7 @@ use Rattle.std.proofs.Common.{◌≡◌, ◌<◌, ℕ, ◌+◌, ◌/◌, List, [
 use Rattle.ring_law.specs.Sums.{values_below}
 use Rattle.ring_law.specs.Rows.{word_at}
 use Rattle.ring_law.proofs.Values.{values_below-get_or}
-use Rattle.bfv_model.specs.Slots.{turned_left, exchanged}
+use Rattle.ring_law.specs.Lists.{turned_left, exchanged}
 use Rattle.script_text.specs.declared.script.Op.{Op}
 use Rattle.script_text.specs.declared.script.Op.TheVariants.{Add, Sub, Neg, AddPlain, SubPlain, MulPlain, MulConst, Mul, Relin, Turn, Swap}
 use Rattle.script_text.specs.Value.{value_made}

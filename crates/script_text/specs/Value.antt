@@ -5,7 +5,7 @@ use Rattle.set_table.specs.Sets.{degree_of, plain_of}
 use Rattle.ring_law.specs.Sums.{values_below}
 use Rattle.ring_law.specs.Residues.{residue}
 use Rattle.ring_law.specs.Rows.{word_at}
-use Rattle.bfv_model.specs.Slots.{turned_left, exchanged}
+use Rattle.ring_law.specs.Lists.{turned_left, exchanged}
 use Rattle.script_text.specs.declared.script.Op.{Op}
 use Rattle.script_text.specs.declared.script.Op.TheVariants.{Add, Sub, Neg, AddPlain, SubPlain, MulPlain, MulConst, Mul, Relin, Turn, Swap}
 use Rattle.script_text.specs.declared.script.Input.{Input}

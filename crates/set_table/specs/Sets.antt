@@ -1,5 +1,6 @@
 -- The table of parameter sets. Its numbers are this project's own choice.
-use Rattle.std.specs.Prelude.{ℕ, List, [], ◌∷◌, ◌++◌, ◌^◌, take, Option, Some, None, codes}
+use Rattle.std.specs.Prelude.{ℕ, List, [], ◌∷◌, ◌++◌, ◌^◌, ◌==◌, take, find, Option, Some, None, codes}
+use Rattle.std.specs.Str.{bytes_eq}
 use Rattle.set_table.specs.declared.SetName.{SetName}
 use Rattle.set_table.specs.declared.SetName.TheVariants.{One16, Toy16, S4096, S8192, S16384}
 
@@ -19,6 +20,18 @@ number_of S4096 = 2
 number_of S8192 = 3
 number_of S16384 = 4
 
+-- all sets, in the order of their numbers
+abbrev pub sets : List SetName
+sets = One16 ∷ Toy16 ∷ S4096 ∷ S8192 ∷ S16384 ∷ []
+
+-- the set of this name, if there is one
+unfoldable pub set_named : List ℕ → Option SetName
+set_named name = find (λ set. bytes_eq name (name_of set)) sets
+
+-- the set of this number, if there is one
+abbrev pub set_numbered : ℕ → Option SetName
+set_numbered number = find (λ set. number_of set == number) sets
+
 -- the degree n of the ring of integer polynomials modulo X^n + 1
 abbrev pub degree_of : SetName → ℕ
 degree_of One16 = 16
@@ -26,6 +39,14 @@ degree_of Toy16 = 16
 degree_of S4096 = 4096
 degree_of S8192 = 8192
 degree_of S16384 = 16384
+
+-- the logarithm of the degree, which is a power of two
+abbrev pub log_degree_of : SetName → ℕ
+log_degree_of One16 = 4
+log_degree_of Toy16 = 4
+log_degree_of S4096 = 12
+log_degree_of S8192 = 13
+log_degree_of S16384 = 14
 
 -- the plaintext modulus t
 abbrev pub plain_of : SetName → ℕ

@@ -5,7 +5,7 @@
 
 ghost use Rattle.std.specs.Prelude.{◌≡◌, ◌<◌, ◌↔◌, length, slice_index, Some, IsNone, ◌≢◌};
 ghost use Rattle.set_table.specs.declared.SetName.{SetName};
-ghost use Rattle.set_table.specs.Sets.{name_of, number_of, degree_of, plain_of, data_of, special_of, aux_count_of, aux_of, m_sk, gamma};
+ghost use Rattle.set_table.specs.Sets.{name_of, set_named, number_of, set_numbered, sets, degree_of, plain_of, data_of, special_of, aux_count_of, aux_of, m_sk, gamma};
 
 /// A parameter set. Its degree is the number of coefficients of a ring element, and its data
 /// moduli are the moduli of a ciphertext's rows.
@@ -17,6 +17,15 @@ pub enum SetName {
     S8192,
     S16384,
 }
+
+/// All sets, in the order of their numbers.
+pub const SETS: [SetName; 5] = [
+    SetName::One16,
+    SetName::Toy16,
+    SetName::S4096,
+    SetName::S8192,
+    SetName::S16384,
+];
 
 /// What a switching key is for: `Relin` takes a ciphertext of three parts to one of two, and
 /// `Turn` brings the turned ciphertext back under the secret.
@@ -73,6 +82,7 @@ impl SetName {
     pub fn from_text(text: &str) -> Option<SetName>
         ensures some { (set : SetName) → (result ≡ Some set) ↔ (text.now ≡ name_of set) }
         ensures none { IsNone result ↔ ((set : SetName) → text.now ≢ name_of set) }
+        ensures named { result ≡ set_named text.now }
     {
         match text {
             "one16" => Some(SetName::One16),
@@ -82,6 +92,15 @@ impl SetName {
             "s16384" => Some(SetName::S16384),
             _ => None,
         }
+    }
+
+    /// The set of this name, which is given by its bytes.
+    pub fn from_bytes(name: &[u8]) -> Option<SetName>
+        ensures { result ≡ set_named name.now }
+    {
+        SETS.iter()
+            .find(|set| name == set.text().as_bytes())
+            .copied()
     }
 
     pub fn text(self) -> &'static str
@@ -100,6 +119,7 @@ impl SetName {
     pub fn from_number(number: u8) -> Option<SetName>
         ensures some { (set : SetName) → (result ≡ Some set) ↔ (number ≡ number_of set) }
         ensures none { IsNone result ↔ (4 < number) }
+        ensures numbered { result ≡ set_numbered number }
     {
         match number {
             0 => Some(SetName::One16),
@@ -206,6 +226,7 @@ impl SetName {
 pub fn constants_are_listed()
     ensures m_sk { M_SK ≡ m_sk }
     ensures gamma { GAMMA ≡ gamma }
+    ensures sets { SETS ≡ sets }
 {}
 
 #[cfg(test)]
@@ -299,6 +320,8 @@ mod tests {
             assert_eq!(rt; set.text(), row.text);
             assert_eq!(rt; set.number() as usize, number);
             assert_eq!(rt; SetName::from_number(set.number()), Some(set));
+            assert_eq!(rt; SetName::from_bytes(row.text.as_bytes()), Some(set));
+            assert_eq!(rt; SETS[number], set);
             assert_eq!(rt; set.degree(), row.degree);
             assert_eq!(rt; set.plain(), row.plain);
             assert_eq!(rt; set.special(), row.special);

@@ -120,14 +120,13 @@ impl Modulus {
         if rest >= self.q { rest - self.q } else { rest }
     }
 
-    /// The power modulo q by squarings. The power with exponent 0 is 1.
+    /// The power of any word modulo q by squarings. The power with exponent 0 is 1.
     pub fn pow(&self, a: u64, e: u64) -> u64
-        requires { a < self.now }
         ensures value { result ≡ a ^ e % self.now }
         ensures below { result < self.now }
     {
         let mut power = self.reduce(1);
-        let mut square = a;
+        let mut square = self.reduce(a);
         let mut left = e;
         while left > 0 {
             if left % 2 == 1 {
