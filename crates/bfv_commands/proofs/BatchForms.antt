@@ -6,7 +6,8 @@ use Rattle.std.proofs.lemmas.Bool.{and_parts, lt-ltb}
 use Rattle.script_text.specs.declared.faults.ScriptPlace.TheVariants.{TooLong}
 use Rattle.batch_text.specs.Commands.{begins_batch, are_plain, commands_of}
 use Rattle.batch_text.proofs.Commands.{each_command}
-use Rattle.command_words.specs.Form.{form_of, form_of_three, form_of_full_words, set_named}
+use Rattle.command_words.specs.Form.{form_of, form_of_three, form_of_full_words}
+use Rattle.set_table.specs.Sets.{set_named}
 use Rattle.command_words.specs.declared.form.Form.TheVariants.{Secret, Public, Encrypt, Decrypt, Check, Batch}
 use Rattle.command_words.proofs.Words.{form_without_run}
 use Rattle.bfv_commands.specs.Batching.{AreSingle}

@@ -8,7 +8,7 @@ use Rattle.bfv_model.specs.FileText.{FileContent}
 use Rattle.bfv_model.specs.DrawnFiles.{drawn_secret_file, drawn_public_file}
 use Rattle.bound_num.specs.declared.Bound.{Bound}
 use Rattle.std.specs.Str.{bytes_eq}
-use Rattle.set_table.specs.Sets.{number_of, special_of}
+use Rattle.set_table.specs.Sets.{set_named, number_of, special_of}
 use Rattle.cipher_files.specs.declared.head.Wanted.TheVariants.{Secret, Public, Cipher}
 use Rattle.script_text.specs.declared.faults.ScriptPlace.{ScriptPlace}
 use Rattle.script_text.specs.Scripts.{Script, needs_of}
@@ -16,7 +16,7 @@ use Rattle.batch_text.specs.Commands.{commands_of}
 use Rattle.noise_check.specs.declared.verdict.Verdict.{Verdict}
 use Rattle.noise_check.specs.declared.verdict.Verdict.TheVariants as verdict
 use Rattle.noise_check.specs.Verdicts.{fresh_bounds, verdict_of}
-use Rattle.command_words.specs.Form.{form_of, set_named}
+use Rattle.command_words.specs.Form.{form_of}
 use Rattle.command_words.specs.Line.{word_at}
 use Rattle.command_words.specs.declared.form.Form.{Form}
 use Rattle.command_words.specs.declared.form.Form.TheVariants as form

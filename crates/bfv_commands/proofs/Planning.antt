@@ -6,7 +6,7 @@ use Rattle.set_table.specs.declared.SetName.{SetName}
 use Rattle.bfv_model.specs.DrawnFiles.{drawn_secret_file, drawn_public_file}
 use Rattle.bfv_model.specs.FileText.{FileContent}
 use Rattle.cipher_files.specs.declared.head.Wanted.TheVariants.{Secret, Public, Cipher}
-use Rattle.command_words.specs.Form.{set_named}
+use Rattle.set_table.specs.Sets.{set_named}
 use Rattle.command_words.specs.Line.{word_at}
 use Rattle.command_words.specs.declared.status.Status.{Status}
 use Rattle.command_model.specs.Plan.{Output, file_with, sealing, values, operand, matching, set_operand, seed_operand, values_operand, seed_word, and_then, plan_of_secret, plan_of_public, plan_of_encrypt, plan_of_decrypt}

@@ -20,7 +20,7 @@ use bfv_model::FileKind;
 use bfv_params::{Context, Secret};
 use bound_num::Bound;
 use cipher_files::{Head, write_secret};
-use command_words::{Status, set_named};
+use command_words::Status;
 use outer_io::Store;
 use rand_chacha::ChaCha20Rng;
 use rand_core::SeedableRng;
@@ -38,7 +38,7 @@ pub fn secret<S: Store>(alloc: Global, words: &[String], store: &mut S) -> Resul
     ensures unchanged { OnErr result ((S.state store.new).files ≡ (S.state store.old).files) }
     ensures cause { IfErr result (λ s. Caused (IsOperand form.Secret 4) (S.state store.old) (S.state store.new) s) }
 {
-    let Some(set) = set_named(name_of(words, 1)) else {
+    let Some(set) = SetName::from_text(name_of(words, 1)) else {
         unreachable!()
     };
     let seed = match read_seed(store, words, 2) {

@@ -7,7 +7,7 @@ use Rattle.outer_io.specs.Store.{Files, file}
 use Rattle.set_table.specs.declared.SetName.{SetName}
 use Rattle.set_table.specs.declared.KeyKind.{KeyKind}
 use Rattle.set_table.specs.declared.KeyKind.TheVariants.{Relin, Turn}
-use Rattle.set_table.specs.Sets.{number_of, degree_of, plain_of, data_of, special_of, key_of}
+use Rattle.set_table.specs.Sets.{set_named, number_of, degree_of, plain_of, data_of, special_of, key_of}
 use Rattle.set_table.specs.Roots.{root_of}
 use Rattle.ring_law.specs.Sums.{values_below}
 use Rattle.ring_law.specs.Polynomials.{ring_product, ring_turn}
@@ -29,7 +29,7 @@ use Rattle.script_text.specs.Scripts.{Script, cipher_inputs}
 use Rattle.script_text.specs.Grammar.{script_of}
 use Rattle.script_text.specs.Value.{value_of}
 use Rattle.script_text.specs.Values.{printed_values}
-use Rattle.command_words.specs.Form.{form_of, set_named, binding_file}
+use Rattle.command_words.specs.Form.{form_of, binding_file}
 use Rattle.command_words.specs.Line.{word_at}
 use Rattle.command_words.specs.declared.form.Form.{Form}
 use Rattle.command_words.specs.declared.form.Form.TheVariants as form

@@ -4,7 +4,7 @@ use Rattle.std.specs.Str.{bytes_eq}
 use Rattle.std.specs.Prelude.{◌≡◌, ℕ, ◌+◌, ◌-◌, ◌<◌, nat_lt, not, ◌&&◌, ◌==◌, if◌then◌else◌, List, [], ◌∷◌, length, map, take, position, slice_get, slice_index, unwrap_or, All, Option, Some, None, is_none, Result, Ok, Err, IsOk}
 use Rattle.outer_io.specs.Store.{Files, file}
 use Rattle.set_table.specs.declared.SetName.{SetName}
-use Rattle.set_table.specs.Sets.{number_of, degree_of, plain_of, special_of}
+use Rattle.set_table.specs.Sets.{set_named, number_of, degree_of, plain_of, special_of}
 use Rattle.bfv_model.specs.declared.file_kind.FileKind.TheVariants as kind
 use Rattle.bfv_model.specs.FileText.{FileContent, IsFile, file_text}
 use Rattle.bfv_model.specs.Drawn.{stream_word, seed_stream, greatest_error}
@@ -33,7 +33,7 @@ use Rattle.cipher_files.specs.declared.head.Wanted.TheVariants.{Secret, Public, 
 use Rattle.cipher_files.specs.declared.faults.FileFault.{FileFault}
 use Rattle.cipher_files.specs.declared.faults.FileFault.TheVariants as fault
 use Rattle.cipher_files.specs.declared.faults.FileFault.TheVariants.{Missing, Failed, Kind}
-use Rattle.command_words.specs.Form.{form_of, out_word, set_named, binding_name, binding_file}
+use Rattle.command_words.specs.Form.{form_of, out_word, binding_name, binding_file}
 use Rattle.command_words.specs.Line.{word_at, accepted_text}
 use Rattle.command_words.specs.declared.form.Form.{Form}
 use Rattle.command_words.specs.declared.form.Form.TheVariants as form

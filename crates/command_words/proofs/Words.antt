@@ -10,9 +10,8 @@ use Rattle.std.specs.List.{list_any, list_all}
 use Rattle.std.specs.String.{string_bytes}
 use Rattle.std.specs.declared.alloc.Global.{Global}
 use Rattle.set_table.specs.declared.SetName.{SetName}
-use Rattle.set_table.specs.declared.SetName.TheVariants.{One16, Toy16, S4096, S8192, S16384}
-use Rattle.set_table.specs.Sets.{name_of}
-use Rattle.command_words.specs.Form.{has_empty_word, form_of, form_of_three, form_of_full_words, set_named, is_binding, is_run, HasCount, IsOperand}
+use Rattle.set_table.specs.Sets.{set_named}
+use Rattle.command_words.specs.Form.{has_empty_word, form_of, form_of_three, form_of_full_words, is_binding, is_run, HasCount, IsOperand}
 use Rattle.command_words.specs.Line.{text_about, word_at}
 use Rattle.command_words.specs.declared.form.Form.{Form}
 use Rattle.command_words.specs.declared.form.Form.TheVariants.{Secret, Public, Encrypt, Run, Decrypt, Check, Batch}
@@ -66,32 +65,6 @@ operand_below Batch word count is first = omega arith
 pub text_about-split : (words : List (List ℕ)) (text : List ℕ) (whole : Bool) (word : Option ℕ) → text_about words text whole word ≡ text ++ text_about words [] whole word
 text_about-split words text whole None = sym (append-nil text)
 text_about-split words text whole (Some word) = refl
-
-name_apart : (name : List ℕ) (set : SetName) → name ≢ name_of set → bytes_eq name (name_of set) ≡ false
-name_apart name set apart = decided (bytes_eq name (name_of set)) (bytes_eq-Decides name (name_of set)).0
-  where
-    decided : (b : Bool) → (b ≡ true → name ≡ name_of set) → b ≡ false
-    decided true is = absurd (apart (is refl))
-    decided false is = refl
-
-no_set_named : (name : List ℕ) → ((set : SetName) → name ≢ name_of set) → set_named name ≡ None
-unfolding set_named
-no_set_named name apart =
-    rw (name_apart name One16 (apart One16)) (rw (name_apart name Toy16 (apart Toy16)) (rw (name_apart name S4096 (apart S4096))
-    (rw (name_apart name S8192 (apart S8192)) (rw (name_apart name S16384 (apart S16384)) refl))))
-
-set_of_own_name : (set : SetName) → set_named (name_of set) ≡ Some set
-unfolding set_named
-set_of_own_name One16 = refl
-set_of_own_name Toy16 = refl
-set_of_own_name S4096 = refl
-set_of_own_name S8192 = refl
-set_of_own_name S16384 = refl
-
--- a set that is found exactly by its name is the one of this name
-pub named_set : (name : List ℕ) (found : Option SetName) → ((set : SetName) → (found ≡ Some set) ↔ (name ≡ name_of set)) → found ≡ set_named name
-named_set name (Some set) is = sym (subst (λ (n : List ℕ). set_named n ≡ Some set) (sym ((is set).0 refl)) (set_of_own_name set))
-named_set name None is = sym (no_set_named name (λ set same. let never : None ≡ Some set = (is set).1 same in absurd (cc)))
 
 -- the form of words that are not those of `run`
 pub form_without_run : (words : List (List ℕ)) (form : Form) → form ≢ Run → form_of words ≡ Some form → form_of_full_words words ≡ Some form

@@ -1,10 +1,8 @@
 -- The forms of a command's words.
-use Rattle.std.specs.Prelude.{◌≡◌, ◌⊎◌, ℕ, ◌<◌, ◌≤◌, Bool, false, ◌&&◌, nat_lt, nat_le, List, [], ◌∷◌, Option, Some, None, is_some, length, ◌==◌, codes, find, if◌then◌else◌}
+use Rattle.std.specs.Prelude.{◌≡◌, ◌⊎◌, ℕ, ◌<◌, ◌≤◌, Bool, false, ◌&&◌, nat_lt, nat_le, List, [], ◌∷◌, Option, Some, None, is_some, length, ◌==◌, codes, if◌then◌else◌}
 use Rattle.std.specs.Str.{bytes_eq}
 use Rattle.std.specs.List.{list_any, list_all, before_first, after_first}
-use Rattle.set_table.specs.declared.SetName.{SetName}
-use Rattle.set_table.specs.declared.SetName.TheVariants.{One16, Toy16, S4096, S8192, S16384}
-use Rattle.set_table.specs.Sets.{name_of}
+use Rattle.set_table.specs.Sets.{set_named}
 use Rattle.script_text.specs.Names.{is_name}
 use Rattle.command_words.specs.declared.form.Form.{Form}
 use Rattle.command_words.specs.declared.form.Form.TheVariants.{Secret, Public, Encrypt, Run, Decrypt, Check, Batch}
@@ -16,10 +14,6 @@ has_empty_word words = list_any (λ word. length word == 0) words
 -- the form of one word behind a command's name
 abbrev pub form_of_one : List ℕ → Option Form
 form_of_one command = if bytes_eq command (codes "check") then Some Check else (if bytes_eq command (codes "batch") then Some Batch else None)
-
--- the set of this name, if there is one
-unfoldable pub set_named : List ℕ → Option SetName
-set_named name = find (λ set. bytes_eq name (name_of set)) (One16 ∷ Toy16 ∷ S4096 ∷ S8192 ∷ S16384 ∷ [])
 
 -- the form of three words behind a command's name. A secret is made for a set that is named.
 unfoldable pub form_of_three : List ℕ → List ℕ → Option Form

@@ -2,6 +2,7 @@
 ghost use Rattle.std.specs.Prelude.{◌≡◌, ◌==◌, map, IfSome, is_some, length, if◌then◌else◌};
 ghost use Rattle.std.specs.List.{list_all, list_any};
 ghost use Rattle.std.specs.String.{string_bytes};
+ghost use Rattle.set_table.specs.Sets.{set_named};
 ghost use Rattle.command_words.specs.Form as form;
 
 use script_text::is_name;
@@ -134,16 +135,9 @@ fn form_of_three(command: &str, first: &str) -> Option<Form>
 }
 
 fn form_of_secret(set: &str) -> Option<Form>
-    ensures { result ≡ (if is_some (form.set_named set.now) then Some Form.Secret else None) }
+    ensures { result ≡ (if is_some (set_named set.now) then Some Form.Secret else None) }
 {
-    set_named(set).map(|_| Form::Secret)
-}
-
-/// The set of this name, if there is one.
-pub fn set_named(name: &str) -> Option<SetName>
-    ensures { result ≡ form.set_named name.now }
-{
-    SetName::from_text(name)
+    SetName::from_text(set).map(|_| Form::Secret)
 }
 
 fn form_of_four(command: &str) -> Option<Form>

@@ -6,6 +6,6 @@ mod form;
 mod line;
 mod status;
 
-pub use form::{Form, binding_file, binding_name, form_of, set_named};
+pub use form::{Form, binding_file, binding_name, form_of};
 pub use line::{accepted_line, put_line};
 pub use status::{BindingFault, Status};

@@ -2,7 +2,7 @@ use Rattle.std.proofs.Common.{◌≡◌, map, sym, ◌∙◌, ap}
 use Rattle.std.specs.Prelude.{Some}
 use Rattle.std.specs.String.{string_bytes}
 use Rattle.bfv_model.specs.DrawnFiles.{drawn_secret_file}
-use Rattle.command_words.specs.Form.{set_named}
+use Rattle.set_table.specs.Sets.{set_named}
 use Rattle.command_words.specs.Line.{word_at}
 use Rattle.command_words.specs.declared.form.Form.TheVariants as form
 use Rattle.command_words.proofs.Words.{secret_names_set}
@@ -14,7 +14,7 @@ use Rattle.bfv_commands.proofs.secret.secret.Goals as goal
 pub unreachable-requires : goal.unreachable-requires
 unreachable-requires g c =
     let words = map string_bytes c.args.words.now in
-    let none = sym c.in_default.is ∙ c.set_named.ensures ∙ ap set_named c.name_of.ensures in
+    let none = sym c.in_default.is ∙ c.from_text.ensures.named ∙ ap set_named c.name_of.ensures in
     let named = secret_names_set words c.requires.form in
     let some = named.1 in
     cc
@@ -22,7 +22,7 @@ unreachable-requires g c =
 pub returns-clause-told : goal.returns-clause-told
 returns-clause-told g c = λ files told.
     let words = map string_bytes c.args.words.now in
-    let set : set_named (word_at words 1) ≡ Some c.in-Some.set = sym (ap set_named c.name_of.ensures) ∙ sym c.set_named.ensures ∙ c.in-Some.is in
+    let set : set_named (word_at words 1) ≡ Some c.in-Some.set = sym (ap set_named c.name_of.ensures) ∙ sym c.from_text.ensures.named ∙ c.in-Some.is in
     let seed = (c.in-Ok.ensures.told files told).ok in
     let wrote = c.write_drawn.ensures.told files (c.in-Ok.ensures.keeps.files ∙ told) in
     ran_written form.Secret words files _ c.name_of-2.result.now (file_with (drawn_secret_file c.in-Some.set (seed_word c.in-Ok.seed))) c.write_drawn.result
