@@ -1,6 +1,7 @@
 -- Scripts: what they consist of, and what holds of every one.
-use Rattle.std.specs.Prelude.{◌≡◌, ◌≢◌, ℕ, ◌+◌, ◌*◌, ◌/◌, ◌%◌, ◌^◌, ◌-◌, ◌<◌, ◌≤◌, max, Bool, true, false, List, [], ◌∷◌, ◌++◌, length, map, fold, filter, replicate, slice_index, slice_get, All, IsTrue, Some}
+use Rattle.std.specs.Prelude.{◌≡◌, ◌≢◌, ℕ, ◌+◌, ◌*◌, ◌/◌, ◌%◌, ◌^◌, ◌-◌, ◌<◌, ◌≤◌, max, Bool, true, false, List, [], ◌∷◌, ◌++◌, length, map, fold, filter, replicate, slice_index, slice_get, All, IsTrue, Option, Some, None}
 use Rattle.std.specs.List.{flat_map, AllPairs}
+use Rattle.std.specs.Option.{option_or}
 use Rattle.set_table.specs.declared.SetName.{SetName}
 use Rattle.set_table.specs.declared.KeyKind.{KeyKind}
 use Rattle.set_table.specs.declared.KeyKind.TheVariants as key
@@ -35,6 +36,41 @@ plain_inputs = filter is_plain
 -- what all registers hold, if the cipher inputs hold these and each operation makes one more of what the registers before it hold
 abbrev pub registers : {A : Type 0} → (List A → Op → A) → List A → List Step → List A
 registers made inputs steps = fold (λ so_far step. so_far ++ made so_far step.op ∷ []) inputs steps
+
+-- the registers that an operation reads, in order
+abbrev pub operands_of : Op → List ℕ
+operands_of (Add a b) = a ∷ b ∷ []
+operands_of (Sub a b) = a ∷ b ∷ []
+operands_of (Neg a) = a ∷ []
+operands_of (AddPlain a p) = a ∷ []
+operands_of (SubPlain a p) = a ∷ []
+operands_of (MulPlain a p) = a ∷ []
+operands_of (MulConst a k) = a ∷ []
+operands_of (Mul a b) = a ∷ b ∷ []
+operands_of (Relin a) = a ∷ []
+operands_of (Turn a k) = a ∷ []
+operands_of (Swap a) = a ∷ []
+
+-- the plain input that an operation reads, if it reads one
+abbrev pub plain_operand_of : Op → Option ℕ
+plain_operand_of (AddPlain a p) = Some p
+plain_operand_of (SubPlain a p) = Some p
+plain_operand_of (MulPlain a p) = Some p
+plain_operand_of op = None
+
+-- the number that an operation multiplies by
+abbrev pub factor_of : Op → Option ℕ
+factor_of (MulConst a k) = Some k
+factor_of op = None
+
+-- how far an operation turns the rows
+abbrev pub distance_of : Op → Option ℕ
+distance_of (Turn a k) = Some k
+distance_of op = None
+
+-- the number that stands among an operation's operands
+abbrev pub number_operand_of : Op → Option ℕ
+number_operand_of op = option_or (factor_of op) (distance_of op)
 
 -- how many parts the result of an operation has, by those of the registers before it
 abbrev pub parts_made : List ℕ → Op → ℕ
