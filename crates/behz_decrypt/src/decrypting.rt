@@ -1,13 +1,12 @@
 //! The plaintext of a cipher.
 
 ghost use Rattle.std.specs.Prelude.{◌≡◌, ℕ, ℤ, pos, ◌*ℤ◌, ◌+◌, ◌*◌, ◌%◌, ◌<◌, ◌≤◌, [], ◌∷◌, length, slice_index};
-ghost use Rattle.set_table.specs.Sets.{aux_of, plain_of, gamma};
-ghost use Rattle.ring_law.specs.Moduli.{product};
+ghost use Rattle.set_table.specs.Sets.{plain_of, gamma};
 ghost use Rattle.ring_law.specs.Rows.{IsReduced, Represents, listed_polynomial};
 ghost use Rattle.rns_poly.specs.Rows.{AreReduced};
 ghost use Rattle.fast_conv.specs.Converters.{AreFastConversions};
 ghost use Rattle.bfv_model.specs.Holds.{CipherHolds, listed_word};
-ghost use Rattle.bfv_params.specs.Moduli.{data_at};
+ghost use Rattle.bfv_params.specs.Contexts.{data_in, modulus_in, scratch_rows_in};
 
 use crate::phases::phase_into;
 use crate::rounding::round_row;
@@ -35,12 +34,12 @@ pub fn decrypt<const N: usize>(
     requires secret_set { (secret.now).set ≡ (ctx.now).set }
     requires cipher_set { (cipher.now).set ≡ (ctx.now).set }
     requires level { (cipher.now).level ≡ (ctx.now).level }
-    requires room { 8 * ((ctx.now).level + length (aux_of (ctx.now).set) + 2) ≤ length scratch.old }
+    requires room { scratch_rows_in (ctx.now) ≤ length scratch.old }
     ensures reduced { IsReduced N (plain_of (ctx.now).set) row.new }
     ensures plain { (m : ℕ → ℕ) (W : ℕ) →
-        CipherHolds N (data_at (ctx.now).set (ctx.now).level) (plain_of (ctx.now).set)
+        CipherHolds N (data_in (ctx.now)) (plain_of (ctx.now).set)
         (listed_word (ctx.now).level (cipher.now).rows) (listed_polynomial (secret.now).small) m W →
-        4 * W ≤ product (data_at (ctx.now).set (ctx.now).level) →
+        4 * W ≤ modulus_in (ctx.now) →
         (k : ℕ) → k < N → slice_index row.new k ≡ m k }
     ensures scratch { length scratch.new ≡ length scratch.old }
 {
@@ -61,9 +60,9 @@ fn decrypt_in_rows<const N: usize>(
     requires room { 5 * (ctx.now).level + 2 ≤ length rows.old }
     ensures reduced { IsReduced N (plain_of (ctx.now).set) row.new }
     ensures plain { (m : ℕ → ℕ) (W : ℕ) →
-        CipherHolds N (data_at (ctx.now).set (ctx.now).level) (plain_of (ctx.now).set)
+        CipherHolds N (data_in (ctx.now)) (plain_of (ctx.now).set)
         (listed_word (ctx.now).level (cipher.now).rows) (listed_polynomial (secret.now).small) m W →
-        4 * W ≤ product (data_at (ctx.now).set (ctx.now).level) →
+        4 * W ≤ modulus_in (ctx.now) →
         (k : ℕ) → k < N → slice_index row.new k ≡ m k }
 {
     let _set = ctx.set();
@@ -79,10 +78,10 @@ fn decrypt_in_rows<const N: usize>(
 /// Writes the rows modulo t and gamma of a phase times t and gamma, up to a small multiple of q.
 fn convert_phase<const N: usize>(ctx: &Context<N>, phase: ViewMut<'_, N>, out: ViewMut<'_, N>)
     requires phase_count { length phase.old ≡ (ctx.now).level }
-    requires phase_reduced { AreReduced N (data_at (ctx.now).set (ctx.now).level) phase.old }
+    requires phase_reduced { AreReduced N (data_in (ctx.now)) phase.old }
     requires count { length out.old ≡ 2 }
-    ensures { (x : ℕ → ℤ) → Represents N (data_at (ctx.now).set (ctx.now).level) phase.old x → (y : ℕ → ℤ)
-        × AreFastConversions N (product (data_at (ctx.now).set (ctx.now).level)) (ctx.now).level
+    ensures { (x : ℕ → ℤ) → Represents N (data_in (ctx.now)) phase.old x → (y : ℕ → ℤ)
+        × AreFastConversions N (modulus_in (ctx.now)) (ctx.now).level
         (λ k. pos gamma *ℤ (pos (plain_of (ctx.now).set) *ℤ x k)) y
         × Represents N (plain_of (ctx.now).set ∷ gamma ∷ []) out.new y }
 {
@@ -95,9 +94,9 @@ fn convert_phase<const N: usize>(ctx: &Context<N>, phase: ViewMut<'_, N>, out: V
 /// Multiplies a phase by t and gamma.
 fn scale_phase<const N: usize>(ctx: &Context<N>, rows: ViewMut<'_, N>)
     requires count { length rows.old ≡ (ctx.now).level }
-    requires reduced { AreReduced N (data_at (ctx.now).set (ctx.now).level) rows.old }
-    ensures { (x : ℕ → ℤ) → Represents N (data_at (ctx.now).set (ctx.now).level) rows.old x →
-        Represents N (data_at (ctx.now).set (ctx.now).level) rows.new
+    requires reduced { AreReduced N (data_in (ctx.now)) rows.old }
+    ensures { (x : ℕ → ℤ) → Represents N (data_in (ctx.now)) rows.old x →
+        Represents N (data_in (ctx.now)) rows.new
         (λ k. pos gamma *ℤ (pos (plain_of (ctx.now).set) *ℤ x k)) }
 {
     let _set = ctx.set();

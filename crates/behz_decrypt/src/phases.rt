@@ -1,14 +1,13 @@
 //! The phase of a cipher under a secret.
 
-ghost use Rattle.std.specs.Prelude.{◌≡◌, ℕ, ℤ, ◌*◌, ◌<◌, ◌≤◌, length, map};
+ghost use Rattle.std.specs.Prelude.{◌≡◌, ℕ, ℤ, ◌*◌, ◌<◌, ◌≤◌, length};
 ghost use Rattle.set_table.specs.Sets.{degree_of};
 ghost use Rattle.ring_law.specs.Polynomials.{ring_product, ring_sum};
 ghost use Rattle.ring_law.specs.Rows.{Represents, WordsRepresent, listed_polynomial};
 ghost use Rattle.rns_poly.specs.Rows.{AreReduced};
 ghost use Rattle.rns_poly.specs.Transforms.{AreTransforms};
 ghost use Rattle.bfv_model.specs.Holds.{listed_word, phase};
-ghost use Rattle.bfv_params.specs.Moduli.{data_at};
-ghost use Rattle.bfv_params.specs.Transforms.{transform_of};
+ghost use Rattle.bfv_params.specs.Contexts.{data_in, transforms_in};
 
 use bfv_params::{Cipher, Context, Secret};
 use rns_poly::{
@@ -30,11 +29,11 @@ pub fn phase_into<const N: usize>(
     requires count { length out.old ≡ (ctx.now).level }
     requires room { length scratch.old ≡ 4 * (ctx.now).level }
     ensures represents { (x0 x1 x2 : ℕ → ℤ) →
-        WordsRepresent N (data_at (ctx.now).set (ctx.now).level) (listed_word (ctx.now).level (cipher.now).rows 0) x0 →
-        WordsRepresent N (data_at (ctx.now).set (ctx.now).level) (listed_word (ctx.now).level (cipher.now).rows 1) x1 →
-        WordsRepresent N (data_at (ctx.now).set (ctx.now).level) (listed_word (ctx.now).level (cipher.now).rows 2) x2 →
-        Represents N (data_at (ctx.now).set (ctx.now).level) out.new (phase N x0 x1 x2 (listed_polynomial (secret.now).small)) }
-    ensures reduced { AreReduced N (data_at (ctx.now).set (ctx.now).level) out.new }
+        WordsRepresent N (data_in (ctx.now)) (listed_word (ctx.now).level (cipher.now).rows 0) x0 →
+        WordsRepresent N (data_in (ctx.now)) (listed_word (ctx.now).level (cipher.now).rows 1) x1 →
+        WordsRepresent N (data_in (ctx.now)) (listed_word (ctx.now).level (cipher.now).rows 2) x2 →
+        Represents N (data_in (ctx.now)) out.new (phase N x0 x1 x2 (listed_polynomial (secret.now).small)) }
+    ensures reduced { AreReduced N (data_in (ctx.now)) out.new }
 {
     let _set = ctx.set();
     let level = out.len();
@@ -68,15 +67,15 @@ fn slope_into<const N: usize>(
     requires cipher_set { (cipher.now).set ≡ (ctx.now).set }
     requires level { (cipher.now).level ≡ (ctx.now).level }
     requires small_count { length small.rows.now ≡ (ctx.now).level }
-    requires small_reduced { AreReduced N (data_at (ctx.now).set (ctx.now).level) small.rows.now }
+    requires small_reduced { AreReduced N (data_in (ctx.now)) small.rows.now }
     requires count { length out.old ≡ (ctx.now).level }
     requires room { length scratch.old ≡ 2 * (ctx.now).level }
     ensures transforms { (x1 x2 s : ℕ → ℤ) →
-        WordsRepresent N (data_at (ctx.now).set (ctx.now).level) (listed_word (ctx.now).level (cipher.now).rows 1) x1 →
-        WordsRepresent N (data_at (ctx.now).set (ctx.now).level) (listed_word (ctx.now).level (cipher.now).rows 2) x2 →
-        AreTransforms (map (transform_of (ctx.now).set) (data_at (ctx.now).set (ctx.now).level)) small.entry.rows.now (λ i. s) →
-        AreTransforms (map (transform_of (ctx.now).set) (data_at (ctx.now).set (ctx.now).level)) out.new (λ i. ring_sum x1 (ring_product N x2 s)) }
-    ensures reduced { AreReduced N (data_at (ctx.now).set (ctx.now).level) out.new }
+        WordsRepresent N (data_in (ctx.now)) (listed_word (ctx.now).level (cipher.now).rows 1) x1 →
+        WordsRepresent N (data_in (ctx.now)) (listed_word (ctx.now).level (cipher.now).rows 2) x2 →
+        AreTransforms (transforms_in (ctx.now)) small.entry.rows.now (λ i. s) →
+        AreTransforms (transforms_in (ctx.now)) out.new (λ i. ring_sum x1 (ring_product N x2 s)) }
+    ensures reduced { AreReduced N (data_in (ctx.now)) out.new }
 {
     let first = part(ctx, cipher, 1);
     if cipher.parts() == 2 {
@@ -100,9 +99,9 @@ fn part<'a, const N: usize>(ctx: &Context<N>, cipher: &'a Cipher<N>, j: usize) -
     requires level { (cipher.now).level ≡ (ctx.now).level }
     requires place { j < 3 }
     ensures represents { (x : ℕ → ℤ) →
-        WordsRepresent N (data_at (ctx.now).set (ctx.now).level) (listed_word (ctx.now).level (cipher.now).rows j) x →
-        Represents N (data_at (ctx.now).set (ctx.now).level) result.rows.now x }
-    ensures reduced { AreReduced N (data_at (ctx.now).set (ctx.now).level) result.rows.now }
+        WordsRepresent N (data_in (ctx.now)) (listed_word (ctx.now).level (cipher.now).rows j) x →
+        Represents N (data_in (ctx.now)) result.rows.now x }
+    ensures reduced { AreReduced N (data_in (ctx.now)) result.rows.now }
     ensures count { length result.rows.now ≡ (ctx.now).level }
 {
     let level = ctx.data_moduli().len();
@@ -112,9 +111,9 @@ fn part<'a, const N: usize>(ctx: &Context<N>, cipher: &'a Cipher<N>, j: usize) -
 /// Writes the transforms of the secret.
 fn transform_secret<const N: usize>(ctx: &Context<N>, secret: &Secret<N>, out: ViewMut<'_, N>)
     requires count { length out.old ≡ (ctx.now).level }
-    ensures transforms { AreTransforms (map (transform_of (ctx.now).set) (data_at (ctx.now).set (ctx.now).level)) out.new
+    ensures transforms { AreTransforms (transforms_in (ctx.now)) out.new
         (λ i. listed_polynomial (secret.now).small) }
-    ensures reduced { AreReduced N (data_at (ctx.now).set (ctx.now).level) out.new }
+    ensures reduced { AreReduced N (data_in (ctx.now)) out.new }
 {
     let _set = ctx.set();
     set_small(ctx.data_moduli(), secret.small(), &mut *out);
@@ -124,11 +123,11 @@ fn transform_secret<const N: usize>(ctx: &Context<N>, secret: &Secret<N>, out: V
 /// Writes the transforms of the polynomial that the rows of a part represent.
 fn transform_part<const N: usize>(ctx: &Context<N>, part: View<'_, N>, out: ViewMut<'_, N>)
     requires part_count { length part.rows.now ≡ (ctx.now).level }
-    requires part_reduced { AreReduced N (data_at (ctx.now).set (ctx.now).level) part.rows.now }
+    requires part_reduced { AreReduced N (data_in (ctx.now)) part.rows.now }
     requires count { length out.old ≡ (ctx.now).level }
-    ensures transforms { (x : ℕ → ℤ) → Represents N (data_at (ctx.now).set (ctx.now).level) part.entry.rows.now x →
-        AreTransforms (map (transform_of (ctx.now).set) (data_at (ctx.now).set (ctx.now).level)) out.new (λ i. x) }
-    ensures reduced { AreReduced N (data_at (ctx.now).set (ctx.now).level) out.new }
+    ensures transforms { (x : ℕ → ℤ) → Represents N (data_in (ctx.now)) part.entry.rows.now x →
+        AreTransforms (transforms_in (ctx.now)) out.new (λ i. x) }
+    ensures reduced { AreReduced N (data_in (ctx.now)) out.new }
 {
     let _set = ctx.set();
     let _moduli = ctx.data_moduli();
@@ -146,13 +145,13 @@ fn product_into<const N: usize>(
     requires a_count { length a.rows.now ≡ (ctx.now).level }
     requires b_count { length b.rows.now ≡ (ctx.now).level }
     requires count { length out.old ≡ (ctx.now).level }
-    requires a_reduced { AreReduced N (data_at (ctx.now).set (ctx.now).level) a.rows.now }
-    requires b_reduced { AreReduced N (data_at (ctx.now).set (ctx.now).level) b.rows.now }
+    requires a_reduced { AreReduced N (data_in (ctx.now)) a.rows.now }
+    requires b_reduced { AreReduced N (data_in (ctx.now)) b.rows.now }
     ensures transforms { (x y : ℕ → ℤ) →
-        AreTransforms (map (transform_of (ctx.now).set) (data_at (ctx.now).set (ctx.now).level)) a.entry.rows.now (λ i. x) →
-        AreTransforms (map (transform_of (ctx.now).set) (data_at (ctx.now).set (ctx.now).level)) b.entry.rows.now (λ i. y) →
-        AreTransforms (map (transform_of (ctx.now).set) (data_at (ctx.now).set (ctx.now).level)) out.new (λ i. ring_product N x y) }
-    ensures reduced { AreReduced N (data_at (ctx.now).set (ctx.now).level) out.new }
+        AreTransforms (transforms_in (ctx.now)) a.entry.rows.now (λ i. x) →
+        AreTransforms (transforms_in (ctx.now)) b.entry.rows.now (λ i. y) →
+        AreTransforms (transforms_in (ctx.now)) out.new (λ i. ring_product N x y) }
+    ensures reduced { AreReduced N (data_in (ctx.now)) out.new }
 {
     let _set = ctx.set();
     pointwise_into(ctx.data_moduli(), a, b, out);
@@ -168,13 +167,13 @@ fn represent_product<const N: usize>(
     requires a_count { length a.rows.now ≡ (ctx.now).level }
     requires b_count { length b.rows.now ≡ (ctx.now).level }
     requires count { length out.old ≡ (ctx.now).level }
-    requires a_reduced { AreReduced N (data_at (ctx.now).set (ctx.now).level) a.rows.now }
-    requires b_reduced { AreReduced N (data_at (ctx.now).set (ctx.now).level) b.rows.now }
+    requires a_reduced { AreReduced N (data_in (ctx.now)) a.rows.now }
+    requires b_reduced { AreReduced N (data_in (ctx.now)) b.rows.now }
     ensures represents { (x y : ℕ → ℤ) →
-        AreTransforms (map (transform_of (ctx.now).set) (data_at (ctx.now).set (ctx.now).level)) a.entry.rows.now (λ i. x) →
-        AreTransforms (map (transform_of (ctx.now).set) (data_at (ctx.now).set (ctx.now).level)) b.entry.rows.now (λ i. y) →
-        Represents N (data_at (ctx.now).set (ctx.now).level) out.new (ring_product N x y) }
-    ensures reduced { AreReduced N (data_at (ctx.now).set (ctx.now).level) out.new }
+        AreTransforms (transforms_in (ctx.now)) a.entry.rows.now (λ i. x) →
+        AreTransforms (transforms_in (ctx.now)) b.entry.rows.now (λ i. y) →
+        Represents N (data_in (ctx.now)) out.new (ring_product N x y) }
+    ensures reduced { AreReduced N (data_in (ctx.now)) out.new }
 {
     let _set = ctx.set();
     let _moduli = ctx.data_moduli();

@@ -7,7 +7,7 @@ ghost use Rattle.word_mod.specs.Moduli.{shoup_of};
 ghost use Rattle.ring_law.specs.Moduli.{product};
 ghost use Rattle.ring_law.specs.Residues.{Congruent, centred_residue, residue};
 ghost use Rattle.ring_law.specs.Rows.{IsReduced, RowRepresents};
-ghost use Rattle.bfv_params.specs.Moduli.{data_at};
+ghost use Rattle.bfv_params.specs.Contexts.{modulus_in};
 ghost use Rattle.behz_decrypt.specs.Rounding.{AreConstants, HaveQuotients, IsRounded};
 
 use bfv_params::Context;
@@ -35,7 +35,7 @@ pub fn round_row<const N: usize>(
 )
     ensures rounded { (y : ℕ → ℤ) → RowRepresents N (plain_of (ctx.now).set) in_plain.now y →
         RowRepresents N gamma in_gamma.now y → (k : ℕ) → k < N →
-        IsRounded (product (data_at (ctx.now).set (ctx.now).level)) (plain_of (ctx.now).set) gamma (y k) (slice_index row.new k) }
+        IsRounded (modulus_in (ctx.now)) (plain_of (ctx.now).set) gamma (y k) (slice_index row.new k) }
     ensures reduced { IsReduced N (plain_of (ctx.now).set) row.new }
 {
     let rounding = Rounding::new(ctx);
@@ -46,7 +46,7 @@ pub fn round_row<const N: usize>(
 
 impl Rounding {
     fn new<const N: usize>(ctx: &Context<N>) -> Rounding
-        ensures constants { AreConstants (product (data_at (ctx.now).set (ctx.now).level)) (plain_of (ctx.now).set) gamma result }
+        ensures constants { AreConstants (modulus_in (ctx.now)) (plain_of (ctx.now).set) gamma result }
         ensures quotients { HaveQuotients result }
     {
         let base = ctx.data_base();

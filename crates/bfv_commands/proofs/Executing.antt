@@ -19,7 +19,7 @@ use Rattle.bfv_model.proofs.DrawnFiles.{CipherHolds-equal_words, CipherHolds-wit
 use Rattle.bfv_params.specs.Kept.{IsCipher}
 use Rattle.bfv_params.specs.Rows.{ZeroFrom}
 use Rattle.bfv_params.specs.Values.{CipherValue, ContextValue, zero_cipher}
-use Rattle.bfv_linear.specs.Ciphers.{IsCipherOf}
+use Rattle.bfv_params.specs.Ciphers.{IsCipherOf}
 use Rattle.script_text.specs.declared.script.Op.{Op}
 use Rattle.script_text.specs.declared.script.Op.TheVariants.{Add, Sub, Neg, AddPlain, SubPlain, MulPlain, MulConst, Mul, Relin, Turn, Swap}
 use Rattle.script_text.specs.declared.script.Step.{Step}

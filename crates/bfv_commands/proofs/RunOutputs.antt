@@ -18,7 +18,7 @@ use Rattle.bfv_model.specs.Holds.{secret_polynomial}
 use Rattle.bfv_model.proofs.Rules.{cipher_bound-IsCanonical}
 use Rattle.bfv_params.specs.Kept.{IsCipher}
 use Rattle.bfv_params.specs.Values.{CipherValue}
-use Rattle.bfv_linear.specs.Ciphers.{IsCipherOf}
+use Rattle.bfv_params.specs.Ciphers.{IsCipherOf}
 use Rattle.script_text.specs.declared.script.InputKind.{InputKind}
 use Rattle.script_text.specs.declared.script.InputKind.TheVariants as input
 use Rattle.script_text.specs.Scripts.{Script, IsSound, cipher_inputs, is_cipher, parts_of}

@@ -11,7 +11,7 @@ ghost use Rattle.bfv_model.specs.Holds.{secret_polynomial};
 ghost use Rattle.script_text.specs.Scripts.{cipher_inputs, plain_inputs, parts_of, is_linear};
 ghost use Rattle.script_text.specs.Value.{value_of};
 ghost use Rattle.noise_check.specs.ExactBounds.{exact_bounds};
-ghost use Rattle.bfv_linear.specs.Ciphers.{IsCipherOf};
+ghost use Rattle.bfv_params.specs.Ciphers.{IsCipherOf};
 ghost use Rattle.script_run.specs.Places.{cipher_at};
 ghost use Rattle.script_run.specs.Workspaces.{input_of, output_of, whole_context};
 ghost use Rattle.script_run.specs.Runs.{Carries, IsQuiet};

@@ -12,7 +12,7 @@ use Rattle.bfv_model.proofs.Ciphers.{CipherHolds-from}
 use Rattle.bfv_params.specs.Moduli.{data_at}
 use Rattle.bfv_params.specs.Values.{CipherValue, ContextValue}
 use Rattle.bfv_params.proofs.Coprimality.{data_length}
-use Rattle.bfv_linear.specs.Ciphers.{HoldsIn}
+use Rattle.bfv_params.specs.Ciphers.{HoldsIn}
 use Rattle.bfv_linear.proofs.Moduli.{both_positive, data_above_one, data_positive}
 use Rattle.bfv_linear.proofs.Operands.{IsOperand}
 use Rattle.bfv_linear.proofs.Results.{Becomes, Combines, IsZeroModulo, KeepsZero, all_rows}

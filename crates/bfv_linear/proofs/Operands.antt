@@ -9,7 +9,7 @@ use Rattle.bfv_params.specs.Rows.{ReducedInTurn, ZeroFrom}
 use Rattle.bfv_params.specs.Values.{CipherValue, ContextValue}
 use Rattle.bfv_params.proofs.Ciphers.{within_three}
 use Rattle.bfv_params.proofs.Tables.{degree_of-limit}
-use Rattle.bfv_linear.specs.Ciphers.{IsCipherOf}
+use Rattle.bfv_params.specs.Ciphers.{IsCipherOf}
 use Rattle.bfv_linear.proofs.OneRow.{alone_reduced, alone_represents, from_alone, one_at, one_long}
 use Rattle.bfv_linear.proofs.Results.{RowBecomes}
 use Rattle.bfv_linear.proofs.Written.{WrittenTo}

@@ -16,7 +16,8 @@ use Rattle.bfv_model.proofs.Noise.{Holds-equal_plain, ring_product_zero}
 use Rattle.bfv_model.proofs.Rules.{degree_pos}
 use Rattle.bfv_params.specs.Moduli.{data_at}
 use Rattle.bfv_params.specs.Values.{CipherValue, ContextValue}
-use Rattle.bfv_linear.specs.Ciphers.{HoldsIn, centred_plain}
+use Rattle.bfv_params.specs.Ciphers.{HoldsIn}
+use Rattle.bfv_linear.specs.Plaintexts.{centred_plain}
 use Rattle.bfv_linear.proofs.Ciphers.{HoldsIn-written, third_is_zero, with_second}
 use Rattle.bfv_linear.proofs.Moduli.{both_positive, plain_positive}
 use Rattle.bfv_linear.proofs.Operands.{IsOperand}

@@ -1,1 +1,1 @@
-pub mod Ciphers
+pub mod Plaintexts

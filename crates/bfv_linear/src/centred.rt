@@ -4,7 +4,7 @@ ghost use Rattle.std.specs.Prelude.{◌≡◌, ◌<◌, ◌≤◌, pos, length, 
 ghost use Rattle.ring_law.specs.Residues.{centred_residue, residue};
 ghost use Rattle.ring_law.specs.Rows.{IsReduced, Represents, RowRepresents};
 ghost use Rattle.rns_poly.specs.Rows.{AreReduced};
-ghost use Rattle.bfv_linear.specs.Ciphers.{centred_plain};
+ghost use Rattle.bfv_linear.specs.Plaintexts.{centred_plain};
 
 use rns_poly::ViewMut;
 use word_mod::Modulus;

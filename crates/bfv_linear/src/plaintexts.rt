@@ -4,7 +4,7 @@ ghost use Rattle.std.specs.Prelude.{◌≡◌, ℕ, ◌+◌, ℤ, slice_index};
 ghost use Rattle.set_table.specs.Sets.{plain_of};
 ghost use Rattle.ring_law.specs.Rows.{IsReduced};
 ghost use Rattle.bfv_model.specs.Plaintexts.{plain_sum, plain_difference};
-ghost use Rattle.bfv_linear.specs.Ciphers.{HoldsIn, IsCipherOf};
+ghost use Rattle.bfv_params.specs.Ciphers.{HoldsIn, IsCipherOf};
 
 use bfv_params::{Cipher, Context};
 use rns_poly::{View, add_into, sub_into};

@@ -1,7 +1,7 @@
 //! Products of a ciphertext with a plaintext or a constant.
 
-ghost use Rattle.std.specs.Prelude.{◌≡◌, ℕ, ◌+◌, ◌*◌, ◌/◌, ◌<◌, ◌≤◌, ℤ, pos, nat_abs, length, map, slice_index, slice_index_or, []};
-ghost use Rattle.set_table.specs.Sets.{aux_of, plain_of};
+ghost use Rattle.std.specs.Prelude.{◌≡◌, ℕ, ◌+◌, ◌*◌, ◌/◌, ◌<◌, ◌≤◌, ℤ, pos, nat_abs, length, slice_index, slice_index_or, []};
+ghost use Rattle.set_table.specs.Sets.{plain_of};
 ghost use Rattle.ring_law.specs.Residues.{centred_residue};
 ghost use Rattle.ring_law.specs.Polynomials.{ring_product};
 ghost use Rattle.ring_law.specs.Rows.{IsReduced, RowRepresents};
@@ -9,9 +9,9 @@ ghost use Rattle.neg_ntt.specs.Parameters.{IsTransformBy};
 ghost use Rattle.rns_poly.specs.Rows.{AreReduced};
 ghost use Rattle.rns_poly.specs.Transforms.{AreTransforms};
 ghost use Rattle.bfv_model.specs.Plaintexts.{plain_multiple, plain_product};
-ghost use Rattle.bfv_params.specs.Moduli.{data_at};
-ghost use Rattle.bfv_params.specs.Transforms.{transform_of};
-ghost use Rattle.bfv_linear.specs.Ciphers.{HoldsIn, IsCipherOf, centred_plain};
+ghost use Rattle.bfv_params.specs.Contexts.{data_in, transforms_in, scratch_rows_in};
+ghost use Rattle.bfv_params.specs.Ciphers.{HoldsIn, IsCipherOf};
+ghost use Rattle.bfv_linear.specs.Plaintexts.{centred_plain};
 
 use crate::centred::{centred_word, set_centred};
 use bfv_params::{Cipher, Context};
@@ -30,7 +30,7 @@ pub fn mul_plain<const N: usize>(
     requires a_of { IsCipherOf (ctx.now) (a.now) }
     requires out_of { IsCipherOf (ctx.now) (out.old) }
     requires below { IsReduced N (plain_of (ctx.now).set) plain.now }
-    requires scratch_rows { length scratch.old ≡ 8 * ((ctx.now).level + length (aux_of (ctx.now).set) + 2) }
+    requires scratch_rows { length scratch.old ≡ scratch_rows_in (ctx.now) }
     ensures of_context { IsCipherOf (ctx.now) (out.new) }
     ensures room { (out.new).room ≡ (out.old).room }
     ensures parts { (out.new).parts ≡ (a.now).parts }
@@ -56,12 +56,12 @@ fn multiply_rows<const N: usize>(
     requires a_of { IsCipherOf (ctx.now) (a.now) }
     requires out_of { IsCipherOf (ctx.now) (out.old) }
     requires factors_length { length factors.rows.now ≡ (ctx.now).level }
-    requires factors_reduced { AreReduced N (data_at (ctx.now).set (ctx.now).level) factors.rows.now }
+    requires factors_reduced { AreReduced N (data_in (ctx.now)) factors.rows.now }
     ensures of_context { IsCipherOf (ctx.now) (out.new) }
     ensures room { (out.new).room ≡ (out.old).room }
     ensures parts { (out.new).parts ≡ (a.now).parts }
     ensures product { (plain : ℕ → ℕ) →
-        AreTransforms (map (transform_of (ctx.now).set) (data_at (ctx.now).set (ctx.now).level)) factors.entry.rows.now
+        AreTransforms (transforms_in (ctx.now)) factors.entry.rows.now
         (λ i. centred_plain (plain_of (ctx.now).set) plain) →
         (s : ℕ → ℤ) (m : ℕ → ℕ) (bound : ℕ) → HoldsIn N (ctx.now) (a.now) s m bound →
         HoldsIn N (ctx.now) (out.new) s (plain_product N (plain_of (ctx.now).set) m plain) (N * (plain_of (ctx.now).set / 2) * bound) }

@@ -3,7 +3,7 @@
 ghost use Rattle.std.specs.Prelude.{◌≡◌, ℕ, ◌+◌, max, ℤ};
 ghost use Rattle.set_table.specs.Sets.{plain_of};
 ghost use Rattle.bfv_model.specs.Plaintexts.{plain_sum, plain_difference, plain_negative};
-ghost use Rattle.bfv_linear.specs.Ciphers.{HoldsIn, IsCipherOf};
+ghost use Rattle.bfv_params.specs.Ciphers.{HoldsIn, IsCipherOf};
 
 use bfv_params::{Cipher, Context};
 use rns_poly::{add_into, neg_into, sub_into};

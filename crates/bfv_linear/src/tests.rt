@@ -4,7 +4,7 @@
 ghost use Rattle.std.specs.Prelude.{◌≡◌, ◌⊎◌, ◌+◌, ◌*◌, ◌≤◌, length, IfOk};
 ghost use Rattle.set_table.specs.Sets.{aux_of, degree_of};
 ghost use Rattle.ring_law.specs.Rows.{IsReduced};
-ghost use Rattle.bfv_linear.specs.Ciphers.{IsCipherOf};
+ghost use Rattle.bfv_params.specs.Ciphers.{IsCipherOf};
 
 use super::*;
 use bfv_params::{Cipher, Context};

@@ -3,5 +3,7 @@ pub mod Transforms
 pub mod Converters
 pub mod Rows
 pub mod Values
+pub mod Contexts
+pub mod Ciphers
 pub mod Kept
 pub mod ContextKept

@@ -1,12 +1,13 @@
 //! All that the calls of the scheme need of a set.
 
 ghost use Rattle.std.specs.Prelude.{◌≡◌, ◌+◌, ◌*◌, ◌<◌, ◌≤◌, length, map, slice_index, slice_index_or, [], Some, IsSome, IfOk};
-ghost use Rattle.set_table.specs.Sets.{degree_of, data_of, aux_of, plain_of, special_of, gamma};
+ghost use Rattle.set_table.specs.Sets.{degree_of, data_of, plain_of, special_of, gamma};
 ghost use Rattle.ring_law.specs.Moduli.{product};
 ghost use Rattle.ring_law.specs.Rows.{IsReduced, Represents, RowRepresents, natural_polynomial};
 ghost use Rattle.rns_poly.specs.Rows.{AreReduced};
 ghost use Rattle.bfv_model.specs.Plaintexts.{scaled_plain};
-ghost use Rattle.bfv_params.specs.Moduli.{data_at, key_at, wide_of};
+ghost use Rattle.bfv_params.specs.Contexts.{data_in, transforms_in, modulus_in, scratch_rows_in};
+ghost use Rattle.bfv_params.specs.Moduli.{key_at, wide_of};
 ghost use Rattle.bfv_params.specs.Transforms.{transform_of};
 ghost use Rattle.bfv_params.specs.Converters.{lift_at, floor_at, back_at, plain_at};
 
@@ -83,17 +84,18 @@ impl<const N: usize> Context<N> {
 
     /// The number of rows that each call of the scheme finds enough to work in.
     pub fn scratch_rows(&self) -> usize
-        ensures { result ≡ 8 * ((self.now).level + length (aux_of (self.now).set) + 2) }
+        ensures { result ≡ scratch_rows_in (self.now) }
     {
         8 * (self.moduli.base.len() + self.set.aux_count() + 2)
     }
 
     /// The data moduli, whose product is q.
     pub fn data_moduli(&self) -> &[Modulus]
-        ensures value { result.now ≡ data_at (self.now).set (self.now).level }
+        ensures value { result.now ≡ data_in (self.now) }
         ensures count { length result.now ≡ (self.now).level }
         ensures some { 0 < (self.now).level }
         ensures within { (self.now).level ≤ length (data_of (self.now).set) }
+        ensures degree { N ≡ degree_of (self.now).set }
     {
         &self.moduli.keys[..self.moduli.base.len()]
     }
@@ -128,14 +130,14 @@ impl<const N: usize> Context<N> {
 
     /// The base of the data moduli.
     pub fn data_base(&self) -> &Base
-        ensures { result.now ≡ data_at (self.now).set (self.now).level }
+        ensures { result.now ≡ data_in (self.now) }
     {
         &self.moduli.base
     }
 
     /// The transforms modulo each data modulus.
     pub fn data_transforms(&self) -> &[Transform<N>]
-        ensures { result.now ≡ map (transform_of (self.now).set) (data_at (self.now).set (self.now).level) }
+        ensures { result.now ≡ transforms_in (self.now) }
     {
         &self.transforms.keys[..self.moduli.base.len()]
     }
@@ -193,7 +195,7 @@ impl<const N: usize> Context<N> {
     /// The division of rows under the moduli of switching keys by the special modulus.
     pub fn drop_conv(&self) -> &DropLast
         requires { IsSome (special_of (self.now).set) }
-        ensures kept { (result.now).kept ≡ data_at (self.now).set (self.now).level }
+        ensures kept { (result.now).kept ≡ data_in (self.now) }
         ensures dropped { special_of (self.now).set ≡ Some (result.now).dropped }
     {
         match &self.converters.special {
@@ -207,9 +209,9 @@ impl<const N: usize> Context<N> {
     pub fn scaled_into(&self, plain: &[u64; N], out: ViewMut<'_, N>)
         requires below { IsReduced N (plain_of (self.now).set) plain.now }
         requires rows { length out.old ≡ (self.now).level }
-        ensures represents { Represents N (data_at (self.now).set (self.now).level) out.new
-            (natural_polynomial (λ k. scaled_plain (product (data_at (self.now).set (self.now).level)) (plain_of (self.now).set) (slice_index plain.now k))) }
-        ensures reduced { AreReduced N (data_at (self.now).set (self.now).level) out.new }
+        ensures represents { Represents N (data_in (self.now)) out.new
+            (natural_polynomial (λ k. scaled_plain (modulus_in (self.now)) (plain_of (self.now).set) (slice_index plain.now k))) }
+        ensures reduced { AreReduced N (data_in (self.now)) out.new }
     {
         scale_rows(&self.moduli.base, &self.moduli.plain, plain, out);
     }
@@ -219,9 +221,9 @@ impl<const N: usize> Context<N> {
         requires place { i < (self.now).level }
         requires below { IsReduced N (plain_of (self.now).set) plain.now }
         requires one { length out.old ≡ 1 }
-        ensures represents { RowRepresents N (slice_index (data_at (self.now).set (self.now).level) i) (slice_index_or out.new 0 [])
-            (natural_polynomial (λ k. scaled_plain (product (data_at (self.now).set (self.now).level)) (plain_of (self.now).set) (slice_index plain.now k))) }
-        ensures reduced { IsReduced N (slice_index (data_at (self.now).set (self.now).level) i) (slice_index_or out.new 0 []) }
+        ensures represents { RowRepresents N (slice_index (data_in (self.now)) i) (slice_index_or out.new 0 [])
+            (natural_polynomial (λ k. scaled_plain (modulus_in (self.now)) (plain_of (self.now).set) (slice_index plain.now k))) }
+        ensures reduced { IsReduced N (slice_index (data_in (self.now)) i) (slice_index_or out.new 0 []) }
     {
         scale_row(&self.moduli.base, i, &self.moduli.plain, plain, &mut out[0]);
     }

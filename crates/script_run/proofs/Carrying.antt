@@ -7,7 +7,7 @@ use Rattle.ring_law.specs.Rows.{natural_polynomial}
 use Rattle.bfv_model.specs.Slots.{slots_of}
 use Rattle.bfv_model.specs.Plaintexts.{plain_sum, plain_difference, plain_negative, plain_multiple, plain_product}
 use Rattle.bfv_params.specs.Values.{CipherValue, ContextValue}
-use Rattle.bfv_linear.specs.Ciphers.{HoldsIn}
+use Rattle.bfv_params.specs.Ciphers.{HoldsIn}
 use Rattle.script_run.specs.Runs.{Carries}
 use Rattle.script_run.proofs.SlotValues.{slots-plain_sum, slots-plain_difference, slots-plain_negative, slots-plain_multiple, slots-plain_product}
 

@@ -6,7 +6,7 @@ use Rattle.set_table.specs.declared.SetName.{SetName}
 use Rattle.set_table.specs.Sets.{aux_of, data_of}
 use Rattle.script_text.specs.Scripts.{Script}
 use Rattle.bfv_params.specs.Values.{CipherValue, ContextValue}
-use Rattle.bfv_linear.specs.Ciphers.{IsCipherOf}
+use Rattle.bfv_params.specs.Ciphers.{IsCipherOf}
 use Rattle.script_run.specs.Registers.{IsPlan, input_count}
 use Rattle.script_run.specs.Places.{cipher_at}
 use Rattle.script_run.specs.Workspaces.{WorkspaceValue, IsWorkspace, input_of, whole_context}

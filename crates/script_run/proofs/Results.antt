@@ -7,7 +7,7 @@ use Rattle.ring_law.specs.Rows.{row_polynomial}
 use Rattle.bfv_model.specs.Slots.{slots_of}
 use Rattle.bfv_model.specs.Plaintexts.{plain_sum, plain_difference, plain_negative, plain_multiple, plain_product}
 use Rattle.bfv_params.specs.Values.{CipherValue, ContextValue}
-use Rattle.bfv_linear.specs.Ciphers.{HoldsIn}
+use Rattle.bfv_params.specs.Ciphers.{HoldsIn}
 use Rattle.script_text.specs.declared.script.Op.{Op}
 use Rattle.script_text.specs.declared.script.Op.TheVariants.{Add, Sub, Neg, AddPlain, SubPlain, MulPlain, MulConst}
 use Rattle.script_text.specs.Evaluating.{IsWithin}

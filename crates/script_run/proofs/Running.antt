@@ -6,7 +6,7 @@ use Rattle.std.proofs.lemmas.List.{length-replicate}
 use Rattle.set_table.specs.declared.SetName.{SetName}
 use Rattle.set_table.specs.Sets.{degree_of, plain_of}
 use Rattle.bfv_params.specs.Values.{CipherValue, ContextValue}
-use Rattle.bfv_linear.specs.Ciphers.{IsCipherOf}
+use Rattle.bfv_params.specs.Ciphers.{IsCipherOf}
 use Rattle.script_text.specs.declared.script.Op.{Op}
 use Rattle.script_text.specs.declared.script.Step.{Step}
 use Rattle.script_text.specs.Scripts.{Script, registers, parts_made, is_cipher, is_plain, plain_inputs}

@@ -4,7 +4,7 @@ use Rattle.std.proofs.lemmas.Bool.{cases_lt}
 use Rattle.std.proofs.lemmas.List.{get_or_append_left}
 use Rattle.std.proofs.Math.Seq.{get_or-append_right, get_or-append_seam}
 use Rattle.bfv_params.specs.Values.{CipherValue, ContextValue}
-use Rattle.bfv_linear.specs.Ciphers.{IsCipherOf}
+use Rattle.bfv_params.specs.Ciphers.{IsCipherOf}
 use Rattle.script_text.specs.declared.script.Op.{Op}
 use Rattle.script_text.specs.declared.script.Op.TheVariants.{Add, Sub, Neg, AddPlain, SubPlain, MulPlain, MulConst, Mul, Relin, Turn, Swap}
 use Rattle.script_run.specs.Places.{cipher_at, no_cipher}

@@ -8,7 +8,7 @@ use Rattle.script_text.specs.Value.{lists_of}
 use Rattle.noise_check.specs.ExactBounds.{exact_bounds}
 use Rattle.bfv_params.specs.Moduli.{data_at}
 use Rattle.bfv_params.specs.Values.{CipherValue, ContextValue}
-use Rattle.bfv_linear.specs.Ciphers.{HoldsIn}
+use Rattle.bfv_params.specs.Ciphers.{HoldsIn}
 use Rattle.script_run.specs.Registers.{input_count}
 use Rattle.script_run.specs.Places.{cipher_at}
 

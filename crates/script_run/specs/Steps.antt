@@ -7,7 +7,7 @@ use Rattle.script_text.specs.Scripts.{parts_made}
 use Rattle.script_text.specs.Value.{value_made}
 use Rattle.noise_check.specs.ExactBounds.{exact_bound}
 use Rattle.bfv_params.specs.Values.{CipherValue, ContextValue}
-use Rattle.bfv_linear.specs.Ciphers.{IsCipherOf}
+use Rattle.bfv_params.specs.Ciphers.{IsCipherOf}
 use Rattle.script_run.specs.Places.{cipher_at}
 use Rattle.script_run.specs.Runs.{Carries}
 

@@ -4,7 +4,7 @@ use Rattle.set_table.specs.declared.SetName.{SetName}
 use Rattle.set_table.specs.Sets.{degree_of, data_of, aux_of}
 use Rattle.script_text.specs.Scripts.{Script, plain_inputs}
 use Rattle.bfv_params.specs.Values.{CipherValue, ContextValue}
-use Rattle.bfv_linear.specs.Ciphers.{IsCipherOf}
+use Rattle.bfv_params.specs.Ciphers.{IsCipherOf}
 use Rattle.script_run.specs.Registers.{IsPlan, input_count}
 use Rattle.script_run.specs.Places.{cipher_at}
 

@@ -7,7 +7,7 @@ ghost use Rattle.ring_law.specs.Rows.{IsReduced};
 ghost use Rattle.script_text.specs.Scripts.{parts_of, plain_inputs, is_linear};
 ghost use Rattle.script_text.specs.Value.{value_of};
 ghost use Rattle.noise_check.specs.ExactBounds.{exact_bounds};
-ghost use Rattle.bfv_linear.specs.Ciphers.{IsCipherOf};
+ghost use Rattle.bfv_params.specs.Ciphers.{IsCipherOf};
 ghost use Rattle.script_run.specs.Registers.{IsPlan, input_count};
 ghost use Rattle.script_run.specs.Places.{cipher_at};
 ghost use Rattle.script_run.specs.Runs.{Carries, InputsCarry, IsQuiet};

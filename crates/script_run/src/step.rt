@@ -4,7 +4,7 @@ ghost use Rattle.std.specs.Prelude.{◌≡◌, ◌≢◌, ℕ, ◌+◌, ◌*◌,
 ghost use Rattle.set_table.specs.Sets.{aux_of, degree_of, plain_of};
 ghost use Rattle.ring_law.specs.Rows.{IsReduced};
 ghost use Rattle.script_text.specs.Evaluating.{IsWithin};
-ghost use Rattle.bfv_linear.specs.Ciphers.{IsCipherOf};
+ghost use Rattle.bfv_params.specs.Ciphers.{IsCipherOf};
 ghost use Rattle.script_text.specs.Scripts.{is_linear};
 ghost use Rattle.script_run.specs.Places.{cipher_at};
 ghost use Rattle.script_run.specs.Steps.{IsOther, OnOperands, OnPlain, ResultCarries, ResultHasParts, StepDone, other_at};

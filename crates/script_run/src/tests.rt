@@ -5,7 +5,7 @@ ghost use Rattle.ring_law.specs.Rows.{IsReduced};
 ghost use Rattle.bfv_params.specs.Moduli.{data_at};
 ghost use Rattle.set_table.specs.Sets.{data_of, plain_of};
 ghost use Rattle.script_text.specs.Scripts.{Script, plain_inputs, is_linear};
-ghost use Rattle.bfv_linear.specs.Ciphers.{IsCipherOf};
+ghost use Rattle.bfv_params.specs.Ciphers.{IsCipherOf};
 ghost use Rattle.script_run.specs.Workspaces.{MadeFor, input_of};
 
 use crate::{Workspace, first_nonlinear};

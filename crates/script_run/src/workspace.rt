@@ -10,7 +10,7 @@ ghost use Rattle.script_text.specs.Value.{value_of};
 ghost use Rattle.noise_check.specs.ExactBounds.{exact_bounds};
 ghost use Rattle.bfv_params.specs.Values.{zero_cipher};
 ghost use Rattle.bfv_params.specs.contracts.cipher.Cipher.{the_row as cipher_row};
-ghost use Rattle.bfv_linear.specs.Ciphers.{IsCipherOf};
+ghost use Rattle.bfv_params.specs.Ciphers.{IsCipherOf};
 ghost use Rattle.key_switch.specs.Providers.{Digits, FaultCause, IsThere, Keeps};
 ghost use Rattle.script_run.specs.Registers.{input_count};
 ghost use Rattle.script_run.specs.Places.{cipher_at};

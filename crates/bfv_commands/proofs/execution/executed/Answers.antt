@@ -6,7 +6,7 @@ use Rattle.set_table.specs.Sets.{degree_of, data_of, plain_of}
 use Rattle.ring_law.specs.Rows.{IsReduced}
 use Rattle.bfv_model.specs.Holds.{secret_polynomial}
 use Rattle.bfv_params.specs.Values.{ContextValue}
-use Rattle.bfv_linear.specs.Ciphers.{IsCipherOf}
+use Rattle.bfv_params.specs.Ciphers.{IsCipherOf}
 use Rattle.script_text.specs.Value.{value_of}
 use Rattle.noise_check.specs.ExactBounds.{exact_bounds}
 use Rattle.key_switch.specs.Memory.{MemKeysValue}

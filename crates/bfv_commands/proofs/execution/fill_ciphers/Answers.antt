@@ -3,7 +3,7 @@ use Rattle.std.specs.Prelude.{slice_index_or}
 use Rattle.std.proofs.lemmas.Option.{slice_get-get_or}
 use Rattle.set_table.specs.declared.SetName.{SetName}
 use Rattle.bfv_params.specs.Values.{CipherValue}
-use Rattle.bfv_linear.specs.Ciphers.{IsCipherOf}
+use Rattle.bfv_params.specs.Ciphers.{IsCipherOf}
 use Rattle.script_run.specs.Workspaces.{input_of, whole_context}
 use Rattle.command_model.specs.Bindings.{no_content}
 use Rattle.bfv_commands.specs.Filled.{HasWordsOf}

@@ -4,7 +4,7 @@ use Rattle.std.specs.Option.{ForSome}
 use Rattle.std.specs.String.{string_bytes}
 use Rattle.outer_io.specs.Store.{OnlyReads}
 use Rattle.bfv_model.specs.FileText.{FileContent}
-use Rattle.bfv_linear.specs.Ciphers.{IsCipherOf}
+use Rattle.bfv_params.specs.Ciphers.{IsCipherOf}
 use Rattle.script_run.specs.Workspaces.{input_of, whole_context}
 use Rattle.command_model.specs.Bindings.{no_content}
 use Rattle.bfv_commands.specs.BoundFiles.{AreHeld}

@@ -3,7 +3,7 @@ use Rattle.std.specs.String.{string_bytes}
 use Rattle.std.specs.Prelude.{slice_index}
 use Rattle.bfv_model.specs.Holds.{secret_polynomial}
 use Rattle.bfv_params.specs.Values.{CipherValue}
-use Rattle.bfv_linear.specs.Ciphers.{IsCipherOf}
+use Rattle.bfv_params.specs.Ciphers.{IsCipherOf}
 use Rattle.script_text.specs.Value.{value_of}
 use Rattle.noise_check.specs.ExactBounds.{exact_bounds}
 use Rattle.script_run.specs.Runs.{Carries}

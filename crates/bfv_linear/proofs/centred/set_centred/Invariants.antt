@@ -1,6 +1,6 @@
 use Rattle.std.proofs.Common.{ℕ, ◌<◌, [], get_or}
 use Rattle.ring_law.specs.Rows.{IsReduced, RowRepresents}
-use Rattle.bfv_linear.specs.Ciphers.{centred_plain}
+use Rattle.bfv_linear.specs.Plaintexts.{centred_plain}
 use Rattle.bfv_linear.proofs.centred.set_centred.Given as goal
 
 abbrev pub invariant-loop-i : goal.invariant-loop-i

@@ -1,6 +1,6 @@
 use Rattle.std.proofs.Common.{◌≡◌, length, get_or}
 use Rattle.ring_law.specs.Rows.{IsReduced, RowRepresents}
-use Rattle.bfv_linear.specs.Ciphers.{centred_plain}
+use Rattle.bfv_linear.specs.Plaintexts.{centred_plain}
 use Rattle.bfv_linear.proofs.centred.set_centred_row.Given as goal
 
 abbrev pub invariant-loop-k : goal.invariant-loop-k

@@ -9,7 +9,7 @@ use Rattle.bfv_params.specs.Moduli.{data_at}
 use Rattle.bfv_params.specs.Transforms.{transform_of}
 use Rattle.bfv_params.proofs.Parts.{moduli_of_transforms}
 use Rattle.bfv_params.proofs.Tables.{degree_of-limit}
-use Rattle.bfv_linear.specs.Ciphers.{centred_plain}
+use Rattle.bfv_linear.specs.Plaintexts.{centred_plain}
 use Rattle.bfv_linear.proofs.products.mul_plain.Goals as goal
 
 pub set_centred-requires : goal.set_centred-requires

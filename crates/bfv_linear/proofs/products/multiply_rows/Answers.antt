@@ -7,7 +7,7 @@ use Rattle.set_table.specs.Sets.{plain_of}
 use Rattle.bfv_params.specs.Moduli.{data_at}
 use Rattle.bfv_params.specs.Transforms.{transform_of}
 use Rattle.bfv_params.specs.Values.{CipherValue}
-use Rattle.bfv_linear.specs.Ciphers.{centred_plain}
+use Rattle.bfv_linear.specs.Plaintexts.{centred_plain}
 use Rattle.bfv_linear.proofs.Operands.{in_cipher, place_in_list}
 use Rattle.bfv_linear.proofs.OneRow.{copied_row, one_at, one_long}
 use Rattle.bfv_linear.proofs.Operations.{HoldsIn-product}

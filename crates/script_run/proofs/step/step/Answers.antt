@@ -1,7 +1,7 @@
 use Rattle.std.proofs.Common.{rules, ◌≡◌, ℕ, ◌++◌, ap, ◌∙◌, arith, subst, sym, length, set}
 use Rattle.std.proofs.lemmas.List.{get_or_default}
 use Rattle.bfv_params.specs.Values.{CipherValue}
-use Rattle.bfv_linear.specs.Ciphers.{IsCipherOf}
+use Rattle.bfv_params.specs.Ciphers.{IsCipherOf}
 use Rattle.script_run.specs.Places.{no_cipher}
 use Rattle.script_run.specs.Steps.{StepDone}
 use Rattle.script_run.proofs.SplitPlaces.{apart_from, middle_all, on_operands, others_all, others_inside, step_done}

@@ -5,7 +5,7 @@ use Rattle.script_text.specs.Scripts.{plain_inputs}
 use Rattle.script_text.specs.Value.{value_of}
 use Rattle.noise_check.specs.ExactBounds.{exact_bounds}
 use Rattle.bfv_params.specs.Values.{CipherValue}
-use Rattle.bfv_linear.specs.Ciphers.{IsCipherOf}
+use Rattle.bfv_params.specs.Ciphers.{IsCipherOf}
 use Rattle.script_run.specs.Registers.{IsPlan}
 use Rattle.script_run.specs.Places.{cipher_at}
 use Rattle.script_run.specs.Runs.{Carries, InputsCarry}
