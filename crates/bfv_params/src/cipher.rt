@@ -1,9 +1,12 @@
 //! Ciphertexts.
 
-ghost use Rattle.std.specs.Prelude.{◌≡◌, ℕ, ◌*◌, ◌%◌, ◌<◌, ◌⊎◌, slice_index, slice_index_or, slice_set, [], IfOk};
-ghost use Rattle.ring_law.specs.Rows.{IsReduced};
+ghost use Rattle.std.specs.Prelude.{◌≡◌, ℕ, ℤ, ◌+◌, ◌*◌, ◌%◌, ◌<◌, ◌⊎◌, length, slice_index, slice_index_or, slice_range, slice_set, [], IfOk};
+ghost use Rattle.ring_law.specs.Rows.{IsReduced, Represents, WordsRepresent};
+ghost use Rattle.rns_poly.specs.Rows.{AreReduced};
+ghost use Rattle.bfv_model.specs.Holds.{listed_word};
 ghost use Rattle.bfv_params.specs.Moduli.{data_at};
 ghost use Rattle.bfv_params.specs.Kept.{IsCipher};
+ghost use Rattle.bfv_params.specs.Rows.{ArePartlyWritten};
 ghost use Rattle.bfv_params.specs.Values.{zero_cipher};
 
 use crate::context::Context;
@@ -67,6 +70,40 @@ impl<const N: usize> Cipher<N> {
     {
         View {
             rows: &self.rows[..3 * self.level],
+        }
+    }
+
+    /// The rows of part j, which are zero where it isn't there.
+    pub fn part(&self, j: usize) -> View<'_, N>
+        requires { j < 3 }
+        ensures value { result.rows.now ≡ slice_range (self.now).rows (j * (self.now).level) (j * (self.now).level + (self.now).level) }
+        ensures count { length result.rows.now ≡ (self.now).level }
+        ensures reduced { AreReduced N (data_at (self.now).set (self.now).level) result.rows.now }
+        ensures represents { (x : ℕ → ℤ) →
+            WordsRepresent N (data_at (self.now).set (self.now).level) (listed_word (self.now).level (self.now).rows j) x →
+            Represents N (data_at (self.now).set (self.now).level) result.rows.now x }
+        ensures kept { IsCipher N (self.now).set (self.now).room (self.now).level (self.now).parts (self.now).rows }
+    {
+        let start = j * self.level;
+        self.view().rows_from_to(start, start + self.level)
+    }
+
+    /// Writes the rows of part j.
+    pub fn set_part(&mut self, j: usize, rows: View<'_, N>)
+        requires place { j < (self.old).parts }
+        requires count { length rows.rows.now ≡ (self.old).level }
+        requires reduced { AreReduced N (data_at (self.old).set (self.old).level) rows.rows.now }
+        ensures set { (self.new).set ≡ (self.old).set }
+        ensures room { (self.new).room ≡ (self.old).room }
+        ensures level { (self.new).level ≡ (self.old).level }
+        ensures parts { (self.new).parts ≡ (self.old).parts }
+        ensures written { ArePartlyWritten (j * (self.old).level) (self.old).level
+            rows.entry.rows.now (self.old).rows (self.new).rows }
+    {
+        let level = self.level;
+        let start = j * level;
+        for i in 0..level {
+            self.set_row(start + i, rows.row(i));
         }
     }
 

@@ -5,6 +5,7 @@ ghost use Rattle.set_table.specs.Sets.{degree_of, data_of, plain_of, special_of,
 ghost use Rattle.ring_law.specs.Moduli.{product};
 ghost use Rattle.ring_law.specs.Rows.{IsReduced, Represents, RowRepresents, natural_polynomial};
 ghost use Rattle.rns_poly.specs.Rows.{AreReduced};
+ghost use Rattle.rns_poly.specs.Transforms.{moduli_of};
 ghost use Rattle.bfv_model.specs.Plaintexts.{scaled_plain};
 ghost use Rattle.bfv_params.specs.Contexts.{data_in, transforms_in, modulus_in, scratch_rows_in};
 ghost use Rattle.bfv_params.specs.Moduli.{key_at, wide_of};
@@ -96,6 +97,7 @@ impl<const N: usize> Context<N> {
         ensures some { 0 < (self.now).level }
         ensures within { (self.now).level ≤ length (data_of (self.now).set) }
         ensures degree { N ≡ degree_of (self.now).set }
+        ensures limit { N ≤ 32768 }
     {
         &self.moduli.keys[..self.moduli.base.len()]
     }
@@ -137,7 +139,11 @@ impl<const N: usize> Context<N> {
 
     /// The transforms modulo each data modulus.
     pub fn data_transforms(&self) -> &[Transform<N>]
-        ensures { result.now ≡ transforms_in (self.now) }
+        ensures value { result.now ≡ transforms_in (self.now) }
+        ensures count { length result.now ≡ (self.now).level }
+        ensures moduli { moduli_of result.now ≡ data_in (self.now) }
+        ensures degree { N ≡ degree_of (self.now).set }
+        ensures limit { N ≤ 32768 }
     {
         &self.transforms.keys[..self.moduli.base.len()]
     }

@@ -7,6 +7,7 @@ mod context;
 mod converters;
 mod moduli;
 mod public;
+mod ring_products;
 mod rows;
 mod scaled;
 mod secret;
@@ -18,5 +19,8 @@ mod transforms;
 pub use cipher::Cipher;
 pub use context::Context;
 pub use public::Public;
+pub use ring_products::{
+    multiply_into, multiply_transforms_into, product_into, transform_into, transform_small_into,
+};
 pub use secret::Secret;
 pub use switch_key::SwitchKey;

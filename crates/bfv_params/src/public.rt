@@ -1,9 +1,12 @@
 //! Public keys.
 
-ghost use Rattle.std.specs.Prelude.{◌≡◌, ◌*◌, ◌%◌, ◌<◌, length, slice_index, slice_set, IfOk};
+ghost use Rattle.std.specs.Prelude.{◌≡◌, ℕ, ℤ, ◌+◌, ◌*◌, ◌%◌, ◌<◌, length, slice_index, slice_range, slice_set, IfOk};
 ghost use Rattle.set_table.specs.Sets.{data_of};
-ghost use Rattle.ring_law.specs.Rows.{IsReduced};
+ghost use Rattle.ring_law.specs.Rows.{IsReduced, Represents, WordsRepresent};
+ghost use Rattle.rns_poly.specs.Rows.{AreReduced};
+ghost use Rattle.bfv_model.specs.Holds.{listed_word};
 ghost use Rattle.bfv_params.specs.Kept.{IsPublic};
+ghost use Rattle.bfv_params.specs.Rows.{ArePartlyWritten};
 ghost use Rattle.bfv_params.specs.Values.{zero_public};
 
 use crate::context::Context;
@@ -51,6 +54,38 @@ impl<const N: usize> Public<N> {
         ensures kept { IsPublic N (self.now).set (self.now).rows }
     {
         View { rows: &self.rows }
+    }
+
+    /// The rows of part j.
+    pub fn part(&self, j: usize) -> View<'_, N>
+        requires { j < 2 }
+        ensures value { result.rows.now ≡ slice_range (self.now).rows (j * length (data_of (self.now).set))
+            (j * length (data_of (self.now).set) + length (data_of (self.now).set)) }
+        ensures count { length result.rows.now ≡ length (data_of (self.now).set) }
+        ensures reduced { AreReduced N (data_of (self.now).set) result.rows.now }
+        ensures represents { (x : ℕ → ℤ) →
+            WordsRepresent N (data_of (self.now).set) (listed_word (length (data_of (self.now).set)) (self.now).rows j) x →
+            Represents N (data_of (self.now).set) result.rows.now x }
+        ensures kept { IsPublic N (self.now).set (self.now).rows }
+    {
+        let count = self.set.data_count();
+        self.view().rows_from_to(j * count, j * count + count)
+    }
+
+    /// Writes the rows of part j.
+    pub fn set_part(&mut self, j: usize, rows: View<'_, N>)
+        requires place { j < 2 }
+        requires count { length rows.rows.now ≡ length (data_of (self.old).set) }
+        requires reduced { AreReduced N (data_of (self.old).set) rows.rows.now }
+        ensures set { (self.new).set ≡ (self.old).set }
+        ensures written { ArePartlyWritten (j * length (data_of (self.old).set)) (length (data_of (self.old).set))
+            rows.entry.rows.now (self.old).rows (self.new).rows }
+    {
+        let count = self.set.data_count();
+        let start = j * count;
+        for i in 0..count {
+            self.set_row(start + i, rows.row(i));
+        }
     }
 
     /// Writes row i, which is under data modulus i modulo their number.

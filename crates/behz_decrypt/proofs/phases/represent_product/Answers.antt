@@ -14,11 +14,11 @@ inverse_all-requires g c =
     let degree : g.row.N ≤ 32768 = subst (λ n. n ≤ 32768) (sym c.set-set.ensures.degree) (degree_of-limit set) in
     let count : length rows ≡ length c.data_transforms.result.now =
     c.product_into.auto.out ∙ c.requires.count ∙ sym (transforms_count set level moduli c.data_moduli-moduli.result.now c.data_transforms.result.now c.data_moduli-moduli.ensures.value
-    c.data_moduli-moduli.ensures.count c.data_transforms.ensures) in (
+    c.data_moduli-moduli.ensures.count c.data_transforms.ensures.value) in (
       omega arith,
       (
         omega (arith, degree),
-        (degree, (count, reduced_by_transforms g.row.N set moduli c.data_transforms.result.now rows c.data_transforms.ensures c.product_into.ensures.reduced)),
+        (degree, (count, reduced_by_transforms g.row.N set moduli c.data_transforms.result.now rows c.data_transforms.ensures.value c.product_into.ensures.reduced)),
       ),
     )
 
@@ -26,4 +26,4 @@ pub returns-clause-represents : goal.returns-clause-represents
 returns-clause-represents g c = λ x y a b.
     let set = c.args.ctx.now.set in
     inverted g.row.N set (data_at set c.args.ctx.now.level) c.data_transforms.result.now c.product_into.new.out c.inverse_all.new.rows (ring_product g.row.N x y)
-    c.data_transforms.ensures c.inverse_all.ensures.represents (c.product_into.ensures.transforms x y a b)
+    c.data_transforms.ensures.value c.inverse_all.ensures.represents (c.product_into.ensures.transforms x y a b)

@@ -16,10 +16,10 @@ forward_all-requires g c =
     let count : length rows ≡ length c.data_transforms.result.now =
     c.copy_from_slice.ensures.len ∙ c.requires.count
     ∙ sym (transforms_count set level moduli c.data_moduli-moduli.result.now c.data_transforms.result.now c.data_moduli-moduli.ensures.value
-    c.data_moduli-moduli.ensures.count c.data_transforms.ensures) in
+    c.data_moduli-moduli.ensures.count c.data_transforms.ensures.value) in
     let reduced : AreReduced g.row.N moduli rows = subst (λ rs. AreReduced g.row.N moduli rs) (sym c.copy_from_slice.ensures.after) c.requires.part_reduced in (
       omega arith,
-      (omega (arith, degree), (degree, (count, reduced_by_transforms g.row.N set moduli c.data_transforms.result.now rows c.data_transforms.ensures reduced))),
+      (omega (arith, degree), (degree, (count, reduced_by_transforms g.row.N set moduli c.data_transforms.result.now rows c.data_transforms.ensures.value reduced))),
     )
 
 pub returns-clause-transforms : goal.returns-clause-transforms
@@ -27,5 +27,5 @@ returns-clause-transforms g c = λ x represents.
     let set = c.args.ctx.now.set in
     let moduli = data_at set c.args.ctx.now.level in
     let rows = c.copy_from_slice.new.self in
-    forwarded g.row.N set moduli c.data_transforms.result.now rows c.forward_all.new.rows x c.data_transforms.ensures c.forward_all.ensures.transforms
+    forwarded g.row.N set moduli c.data_transforms.result.now rows c.forward_all.new.rows x c.data_transforms.ensures.value c.forward_all.ensures.transforms
     (subst (λ rs. Represents g.row.N moduli rs x) (sym c.copy_from_slice.ensures.after) represents)

@@ -51,7 +51,7 @@ returns-clause-words g c =
     let named : c.data_moduli-moduli.result.now ≡ moduli = c.data_moduli-moduli.ensures.value ∙ whole in
     let count : length c.data_moduli-moduli.result.now ≡ L = ap length named in
     let transforms : AreTransforms (map (transform_of set) moduli) c.forward_all.new.rows u =
-    transforms_of_rows n set moduli c.data_transforms.result.now c.set_small.new.out c.forward_all.new.rows (c.data_transforms.ensures ∙ ap (map (transform_of set)) whole) c.forward_all.ensures.transforms u
+    transforms_of_rows n set moduli c.data_transforms.result.now c.set_small.new.out c.forward_all.new.rows (c.data_transforms.ensures.value ∙ ap (map (transform_of set)) whole) c.forward_all.ensures.transforms u
     (ternary_represents n moduli c.set_small.new.out c.ternary_row.new.out words c.ternary_row.ensures.samples
     (subst (λ (qs : List ℕ). Represents n qs c.set_small.new.out (listed_polynomial c.ternary_row.new.out)) named c.set_small.ensures.represents)) in
     let kept : IsPublic n set key = subst (λ (s : SetName). IsPublic n s key) c.requires.public_set c.view-key.ensures.kept in

@@ -18,7 +18,7 @@ returns-clause-represents g c = λ p u key_is mask_is.
     let product : EachRepresents n moduli c.inverse_all.new.rows (λ i. ring_product n (p i) (u i)) =
     products_by_transforms n set moduli (AreParameters-data_at n set c.args.ctx.now.level c.set-set.ensures.degree)
     c.data_moduli-moduli.result.now c.data_transforms-transforms.result.now c.copy_from_slice.new.self c.forward_all.new.rows c.args.mask.rows.now c.pointwise_into.new.out c.inverse_all.new.rows
-    named c.data_transforms-transforms.ensures
+    named c.data_transforms-transforms.ensures.value
     c.forward_all.ensures.transforms c.pointwise_into.ensures.represents c.inverse_all.ensures.represents p u rows_are mask_is in
     subst (λ (qs : List ℕ). EachRepresents n qs c.add_into.new.out (λ i. ring_sum (ring_product n (p i) (u i)) e)) named
     (c.add_into.ensures.represents (λ i. ring_product n (p i) (u i)) (λ i. e)

@@ -40,8 +40,8 @@ forward_all-requires g c =
     let rows : length c.view_mut.result.now ≡ length c.args.scratch.now = ap length c.view_mut.ensures.value in
     let factors : length c.set_centred.new.out ≡ length moduli =
     c.set_centred.auto.out ∙ ap length c.split-factors.ensures.first ∙ length-take-le (length moduli) c.view_mut.result.now (omega (arith, c.data_moduli-moduli.ensures.count, c.requires.scratch_rows)) in
-    let count : length transforms ≡ length moduli = ap length c.data_transforms.ensures ∙ length-map (data_at set c.args.ctx.now.level) (transform_of set) ∙ sym (ap length listed) in
-    let same : moduli_of transforms ≡ moduli = ap moduli_of c.data_transforms.ensures ∙ moduli_of_transforms set (data_at set c.args.ctx.now.level) ∙ sym listed in
+    let count : length transforms ≡ length moduli = ap length c.data_transforms.ensures.value ∙ length-map (data_at set c.args.ctx.now.level) (transform_of set) ∙ sym (ap length listed) in
+    let same : moduli_of transforms ≡ moduli = ap moduli_of c.data_transforms.ensures.value ∙ moduli_of_transforms set (data_at set c.args.ctx.now.level) ∙ sym listed in
     (lit< tt, (omega (arith, degree), (degree, (factors ∙ sym count, subst (λ ms. AreReduced n ms c.set_centred.new.out) (sym same) c.set_centred.ensures.reduced))))
 
 pub returns-clause-product : goal.returns-clause-product
@@ -51,7 +51,7 @@ returns-clause-product g c = λ s m bound h.
     let moduli : List ℕ = c.data_moduli-moduli.result.now in
     let listed : moduli ≡ data_at set c.args.ctx.now.level = c.data_moduli-moduli.ensures.value in
     let transforms : List Parameters = c.data_transforms.result.now in
-    let same : moduli_of transforms ≡ moduli = ap moduli_of c.data_transforms.ensures ∙ moduli_of_transforms set (data_at set c.args.ctx.now.level) ∙ sym listed in
+    let same : moduli_of transforms ≡ moduli = ap moduli_of c.data_transforms.ensures.value ∙ moduli_of_transforms set (data_at set c.args.ctx.now.level) ∙ sym listed in
     let plain : c.plain.result ≡ plain_of set = c.plain.ensures ∙ ap plain_of c.set.ensures.value in
     let factor : ℕ → ℤ = centred_plain (plain_of set) (slice_index c.args.plain.now) in
     let centred : EachRepresents n moduli c.set_centred.new.out (λ i. factor) =
@@ -59,4 +59,4 @@ returns-clause-product g c = λ s m bound h.
     let turned : AreTransforms transforms c.forward_all.new.rows (λ i. factor) =
     c.forward_all.ensures.transforms (λ i. factor) (subst (λ ms. EachRepresents n ms c.set_centred.new.out (λ i. factor)) (sym same) centred) in
     c.multiply_rows.ensures.product (slice_index c.args.plain.now)
-    (subst (λ ts. AreTransforms ts c.forward_all.new.rows (λ i. factor)) c.data_transforms.ensures turned) s m bound h
+    (subst (λ ts. AreTransforms ts c.forward_all.new.rows (λ i. factor)) c.data_transforms.ensures.value turned) s m bound h

@@ -30,7 +30,7 @@ multiply_row-requires g c =
     let in_list : p < length moduli = subst (λ m. m < length moduli) (sym at) (place_in_list n ctx moduli a i known) in
     let within : i < 3 * length moduli = in_cipher n ctx moduli c.set_parts.new.self i c.parts-parts.result c.loop-i.invariant.over c.set_parts.ensures.parts
     (subst (λ m. i < c.parts-parts.result * m) level c.loop-i-test.true) in
-    let is : t ≡ get_or (map (transform_of ctx.set) moduli) p t = c.index-transforms-place.is ∙ ap (λ (ts : List Parameters). get_or ts p t) c.data_transforms-transforms.ensures in
+    let is : t ≡ get_or (map (transform_of ctx.set) moduli) p t = c.index-transforms-place.is ∙ ap (λ (ts : List Parameters). get_or ts p t) c.data_transforms-transforms.ensures.value in
     let modulus : t.modulus ≡ slice_index moduli p = transform_at ctx.set moduli p t in_list is in
     let one = c.loop-i.invariant.one in
     let copied : get_or a.rows i [] ≡ get_or (slice_set c.loop-i.row 0 c.row.result.now) 0 [] =
@@ -82,7 +82,7 @@ loop-i-preserved g c =
     let at : p ≡ i % length moduli = ap (λ (m : ℕ). i % m) level in
     let in_list : p < length moduli = subst (λ m. m < length moduli) (sym at) (place_in_list n ctx moduli a i known) in
     let within : i < 3 * length moduli = in_cipher n ctx moduli first i c.parts-parts.result over c.set_parts.ensures.parts (subst (λ m. i < c.parts-parts.result * m) level c.loop-i-test.true) in
-    let is : t ≡ get_or (map (transform_of ctx.set) moduli) p t = c.index-transforms-place.is ∙ ap (λ (ts : List Parameters). get_or ts p t) c.data_transforms-transforms.ensures in
+    let is : t ≡ get_or (map (transform_of ctx.set) moduli) p t = c.index-transforms-place.is ∙ ap (λ (ts : List Parameters). get_or ts p t) c.data_transforms-transforms.ensures.value in
     let modulus : t.modulus ≡ slice_index moduli (i % length moduli) = transform_at ctx.set moduli p t in_list is ∙ ap (slice_index moduli) at in
     let one = c.loop-i.invariant.one in
     let copied : get_or a.rows i [] ≡ get_or given 0 [] =

@@ -18,7 +18,7 @@ returns-clause-represents g c = λ a mask_is.
     subst (λ (qs : List ℕ). Represents n qs c.set_small.new.out s) named
     (subst (λ (small : List ℤ). Represents n c.data_moduli-moduli.result.now c.set_small.new.out (listed_polynomial small)) c.small.ensures.value c.set_small.ensures.represents) in
     let product : EachRepresents n moduli c.multiply.new.out (λ i. ring_product n (a i) s) = c.multiply.ensures.products a (λ i. s) mask_is
-    (transforms_of_rows n set moduli c.data_transforms.result.now c.set_small.new.out c.forward_all.new.rows c.data_transforms.ensures c.forward_all.ensures.transforms (λ i. s) secret) in
+    (transforms_of_rows n set moduli c.data_transforms.result.now c.set_small.new.out c.forward_all.new.rows c.data_transforms.ensures.value c.forward_all.ensures.transforms (λ i. s) secret) in
     subst (λ (qs : List ℕ). EachRepresents n qs c.neg_into.new.out (λ i. ring_negative (ring_sum (ring_product n (a i) s) e))) named
     (c.neg_into.ensures.represents (λ i. ring_sum (ring_product n (a i) s) e)
     (c.add_into.ensures.represents (λ i. ring_product n (a i) s) (λ i. e)

@@ -1,4 +1,4 @@
-use Rattle.std.proofs.Common.{◌≡◌, ℕ, ◌<◌, ◌≤◌, ◌^◌, length, arith, sym, subst, slice_index, List}
+use Rattle.std.proofs.Common.{ℕ, ◌<◌, ◌≤◌, ◌^◌, length, arith, sym, subst, slice_index, List}
 use Rattle.std.specs.Int.{IsGcd}
 use Rattle.ring_law.specs.Rows.{IsReduced}
 use Rattle.bfv_params.specs.Moduli.{data_at}
