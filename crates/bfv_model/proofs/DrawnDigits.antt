@@ -13,7 +13,7 @@ use Rattle.ring_law.proofs.Moduli.{PairwiseInvertible, product_positive}
 use Rattle.ring_law.proofs.Residues.{Congruent-residue, residue_equal}
 use Rattle.ring_law.proofs.TransformEntries.{transform_determines}
 use Rattle.ring_law.proofs.WholeNumbers.{int_zero_mul}
-use Rattle.bfv_model.specs.Drawn.{digit_place, drawn_digit, drawn_digit_mask, drawn_error}
+use Rattle.bfv_model.specs.Drawn.{digit_place, drawn_digit, drawn_digit_mask, drawn_error, greatest_error}
 use Rattle.bfv_model.specs.Keys.{IsSwitchKeyOf, IsTransformRoot}
 use Rattle.bfv_model.proofs.DrawnSamples.{drawn_error_within}
 use Rattle.bfv_model.proofs.KeySwitching.{IsSwitchKeyOf-digit}
@@ -75,9 +75,9 @@ pub drawn_digit-IsSwitchKeyOf : (log P : ℕ) (moduli roots : List ℕ) (source 
     → ((r : ℕ) → r < length moduli + 1 → IsTransformRoot log (slice_index (moduli ++ P ∷ []) r) (slice_index roots r))
     → ((i r k : ℕ) → i < length moduli → r < length moduli + 1 → k < 2 ^ log
     → drawn_digit log moduli P roots source s words i r k ≡ transform_entry (slice_index (moduli ++ P ∷ []) r) log (slice_index roots r)
-    (key0 i) k) → ((i r k : ℕ) → i < length moduli → r < length moduli + 1 → k < 2 ^ log → drawn_digit_mask (2 ^ log) moduli P words i r k ≡ transform_entry (slice_index (moduli ++ P ∷ []) r) log (slice_index roots r) (key1 i) k) → IsSwitchKeyOf (2 ^ log) moduli P 21 key0 key1 source s
+    (key0 i) k) → ((i r k : ℕ) → i < length moduli → r < length moduli + 1 → k < 2 ^ log → drawn_digit_mask (2 ^ log) moduli P words i r k ≡ transform_entry (slice_index (moduli ++ P ∷ []) r) log (slice_index roots r) (key1 i) k) → IsSwitchKeyOf (2 ^ log) moduli P greatest_error key0 key1 source s
 drawn_digit-IsSwitchKeyOf log P moduli roots source s words key0 key1 coprime big pos_P back first second i digit =
-    IsSwitchKeyOf-digit (2 ^ log) P 21 i moduli (key0 i) (key1 i) source s e coprime big whole
+    IsSwitchKeyOf-digit (2 ^ log) P greatest_error i moduli (key0 i) (key1 i) source s e coprime big whole
     (drawn_error_within (2 ^ log) words (digit_place (2 ^ log) moduli i))
     (λ j k row place. data_row j k row place)
     (λ k place. special_row k place)

@@ -1,5 +1,5 @@
 -- What drawn keys and ciphers are: the relations of the keys, and what a fresh cipher holds.
-use Rattle.std.proofs.Common.{List, arith, le_trans, length, nat_abs, neg_ℤ, pos, refl, slice_index, suc, sym, zero, ℕ, ℤ, ◌*◌, ◌+ℤ◌, ◌<◌, ◌∙◌, ◌≡◌, ◌≤◌}
+use Rattle.std.proofs.Common.{List, arith, le_trans, length, nat_abs, neg_ℤ, pos, refl, slice_index, subst, suc, sym, zero, ℕ, ℤ, ◌*◌, ◌+ℤ◌, ◌<◌, ◌∙◌, ◌≡◌, ◌≤◌}
 use Rattle.std.proofs.lemmas.Int.{ints}
 use Rattle.std.proofs.lemmas.List.Elements.{All-from_get_or}
 use Rattle.ring_law.specs.Moduli.{AllAboveOne, product}
@@ -11,14 +11,15 @@ use Rattle.ring_law.proofs.Congruence.{Congruent-add, Congruent-equal, Congruent
 use Rattle.ring_law.proofs.Moduli.{PairwiseInvertible, positive_from_above_one, product_positive}
 use Rattle.ring_law.proofs.PolynomialRing.{ring_product_congruent}
 use Rattle.ring_law.proofs.Residues.{Congruent-from_residues, centred_residue_least, residue_equal}
-use Rattle.bfv_model.specs.Drawn.{drawn_cipher, drawn_error, drawn_mask, drawn_public, drawn_ternary}
+use Rattle.bfv_model.specs.Drawn.{drawn_cipher, drawn_error, drawn_mask, drawn_public, drawn_ternary, greatest_error, greatest_ternary}
 use Rattle.bfv_model.specs.Holds.{CipherHolds, zero_polynomial}
 use Rattle.bfv_model.specs.Keys.{IsPublicKeyOf}
-use Rattle.bfv_model.specs.NoiseBounds.{fresh_bound}
+use Rattle.bfv_model.specs.NoiseBounds.{fresh_bound, fresh_bound_under}
 use Rattle.bfv_model.specs.Plaintexts.{scaled_plain}
 use Rattle.bfv_model.proofs.CipherOperations.{WordsRepresent-word, WordsRepresent-zero, part_of}
 use Rattle.bfv_model.proofs.Ciphers.{CipherHolds-from}
 use Rattle.bfv_model.proofs.DrawnSamples.{drawn_error_within, drawn_ternary_within}
+use Rattle.bfv_model.proofs.FreshNoise.{fresh_bound-ternary}
 use Rattle.bfv_model.proofs.LinearOperations.{Holds-fresh}
 use Rattle.bfv_model.proofs.Noise.{mul_positive}
 
@@ -44,7 +45,7 @@ row_congruent n moduli word x i big row represents = record { at = λ k place. W
 -- a drawn public key is one of its secret
 pub drawn_public-IsPublicKeyOf : (n : ℕ) (moduli : List ℕ) (s : ℕ → ℤ) (words : ℕ → ℕ) (p0 p1 : ℕ → ℤ) → PairwiseInvertible moduli
     → AllAboveOne moduli → WordsRepresent n moduli (drawn_public n moduli s words 0) p0
-    → WordsRepresent n moduli (drawn_public n moduli s words 1) p1 → IsPublicKeyOf n (product moduli) 21 p0 p1 s
+    → WordsRepresent n moduli (drawn_public n moduli s words 1) p1 → IsPublicKeyOf n (product moduli) greatest_error p0 p1 s
 drawn_public-IsPublicKeyOf n moduli s words p0 p1 coprime big first second k place =
     le_trans (centred_residue_least (product moduli) (p0 k +ℤ ring_product n p1 s k) (neg_ℤ (drawn_error words 0 k))
     (product_positive moduli big)
@@ -68,14 +69,14 @@ drawn_public-IsPublicKeyOf n moduli s words p0 p1 coprime big first second k pla
         cancel : (a e : ℤ) → neg_ℤ (a +ℤ e) +ℤ a ≡ neg_ℤ e
         cancel a e = omega (arith, ints)
 
--- a drawn cipher holds its plaintext within the fresh bound, under every ternary secret of its public key
-pub drawn_cipher-CipherHolds : (n t : ℕ) (moduli : List ℕ) (p : ℕ → ℕ → ℕ → ℕ) (p0 p1 s : ℕ → ℤ) (m words : ℕ → ℕ) → 0 < n → 0 < t
+-- a drawn cipher holds its plaintext under every secret of its public key, within the bound that their sizes give
+pub drawn_cipher-CipherHolds_under : (n t K S : ℕ) (moduli : List ℕ) (p : ℕ → ℕ → ℕ → ℕ) (p0 p1 s : ℕ → ℤ) (m words : ℕ → ℕ) → 0 < n → 0 < t
     → PairwiseInvertible moduli → AllAboveOne moduli → WordsRepresent n moduli (p 0) p0 → WordsRepresent n moduli (p 1) p1
-    → IsPublicKeyOf n (product moduli) 21 p0 p1 s → AllWithin n 1 s → ((k : ℕ) → k < n → m k < t)
-    → CipherHolds n moduli t (drawn_cipher n moduli (product moduli) t p m words) s m (fresh_bound n t 21)
-drawn_cipher-CipherHolds n t moduli p p0 p1 s m words pos_n pos_t coprime big first second key ternary plain =
+    → IsPublicKeyOf n (product moduli) K p0 p1 s → AllWithin n S s → ((k : ℕ) → k < n → m k < t)
+    → CipherHolds n moduli t (drawn_cipher n moduli (product moduli) t p m words) s m (fresh_bound_under n t greatest_error K S)
+drawn_cipher-CipherHolds_under n t K S moduli p p0 p1 s m words pos_n pos_t coprime big first second key secret plain =
     CipherHolds-from (drawn_cipher n moduli (product moduli) t p m words) (part_of c0 c1 zero_polynomial) big pos_q some rows
-    (Holds-fresh n (product moduli) t 21 p0 p1 s u e1 e2 c0 c1 m pos_n pos_t pos_q some key ternary (drawn_ternary_within n words)
+    (Holds-fresh n (product moduli) t greatest_error K S p0 p1 s u e1 e2 c0 c1 m pos_n pos_t pos_q some key secret (drawn_ternary_within n words)
     (drawn_error_within n words n) (drawn_error_within n words (2 * n)) plain
     (record { at = λ k _. Congruent-refl (product moduli) (c0 k) }) (record { at = λ k _. Congruent-refl (product moduli) (c1 k) }))
   where
@@ -122,3 +123,13 @@ drawn_cipher-CipherHolds n t moduli p p0 p1 s m words pos_n pos_t coprime big fi
     ))
     rows (suc (suc zero)) l = WordsRepresent-zero n moduli (drawn_cipher n moduli (product moduli) t p m words 2) (λ i k row place. refl)
     rows (suc (suc (suc j))) l = absurd (omega arith)
+
+-- under a key that is no worse than a drawn one, and a ternary secret, this is the fresh bound
+pub drawn_cipher-CipherHolds : (n t : ℕ) (moduli : List ℕ) (p : ℕ → ℕ → ℕ → ℕ) (p0 p1 s : ℕ → ℤ) (m words : ℕ → ℕ) → 0 < n → 0 < t
+    → PairwiseInvertible moduli → AllAboveOne moduli → WordsRepresent n moduli (p 0) p0 → WordsRepresent n moduli (p 1) p1
+    → IsPublicKeyOf n (product moduli) greatest_error p0 p1 s → AllWithin n greatest_ternary s → ((k : ℕ) → k < n → m k < t)
+    → CipherHolds n moduli t (drawn_cipher n moduli (product moduli) t p m words) s m (fresh_bound n t greatest_error)
+drawn_cipher-CipherHolds n t moduli p p0 p1 s m words pos_n pos_t coprime big first second key ternary plain =
+    subst (λ (bound : ℕ). CipherHolds n moduli t (drawn_cipher n moduli (product moduli) t p m words) s m bound)
+    (fresh_bound-ternary n t greatest_error)
+    (drawn_cipher-CipherHolds_under n t greatest_error greatest_ternary moduli p p0 p1 s m words pos_n pos_t coprime big first second key ternary plain)

@@ -4,11 +4,11 @@ use Rattle.std.specs.Int.RustNames.{count_ones}
 use Rattle.std.proofs.lemmas.Int.{ints}
 use Rattle.std.proofs.lemmas.Nat.{ones-le, ones_cat}
 use Rattle.ring_law.specs.Polynomials.{AllWithin}
-use Rattle.bfv_model.specs.Drawn.{drawn_error, drawn_secret, drawn_ternary, error_sample, ternary_sample, uniform_sample}
+use Rattle.bfv_model.specs.Drawn.{drawn_error, drawn_secret, drawn_ternary, error_sample, greatest_error, greatest_ternary, ternary_sample, uniform_sample}
 use Rattle.bfv_model.specs.Holds.{ternary_coefficient}
 
--- no error is greater than 21
-pub error_sample_within : (word : ℕ) → nat_abs (error_sample word) ≤ 21
+-- no error is greater than 21 bits allow
+pub error_sample_within : (word : ℕ) → nat_abs (error_sample word) ≤ greatest_error
 unfolding error_sample
 error_sample_within word = apart (count_ones (word % 2 ^ 21)) (count_ones (word / 2 ^ 21 % 2 ^ 21))
     (ones-le 21 (word % 2 ^ 21) (mod-lt word (lit< tt))) (ones-le 21 (word / 2 ^ 21 % 2 ^ 21) (mod-lt (word / 2 ^ 21) (lit< tt)))
@@ -16,20 +16,20 @@ error_sample_within word = apart (count_ones (word % 2 ^ 21)) (count_ones (word 
     apart : (a b : ℕ) → a ≤ 21 → b ≤ 21 → nat_abs (pos a -ℤ pos b) ≤ 21
     apart a b first second = omega (arith, ints)
 
-pub drawn_error_within : (n : ℕ) (words : ℕ → ℕ) (from : ℕ) → AllWithin n 21 (drawn_error words from)
+pub drawn_error_within : (n : ℕ) (words : ℕ → ℕ) (from : ℕ) → AllWithin n greatest_error (drawn_error words from)
 drawn_error_within n words from k below = error_sample_within (words (from + k))
 
 -- a ternary sample is -1, 0 or 1
-pub ternary_coefficient_within : (word : ℕ) → word < 3 → nat_abs (ternary_coefficient word) ≤ 1
+pub ternary_coefficient_within : (word : ℕ) → word < 3 → nat_abs (ternary_coefficient word) ≤ greatest_ternary
 ternary_coefficient_within zero below = omega (arith, ints)
 ternary_coefficient_within (suc zero) below = omega (arith, ints)
 ternary_coefficient_within (suc (suc zero)) below = omega (arith, ints)
 ternary_coefficient_within (suc (suc (suc word))) below = absurd (omega arith)
 
-pub drawn_ternary_within : (n : ℕ) (words : ℕ → ℕ) → AllWithin n 1 (drawn_ternary words)
+pub drawn_ternary_within : (n : ℕ) (words : ℕ → ℕ) → AllWithin n greatest_ternary (drawn_ternary words)
 drawn_ternary_within n words k below = ternary_coefficient_within (words k % 3) (mod-lt (words k) (lit< tt))
 
-pub drawn_secret_within : (n : ℕ) (words : ℕ → ℕ) → AllWithin n 1 (λ k. ternary_coefficient (drawn_secret words k))
+pub drawn_secret_within : (n : ℕ) (words : ℕ → ℕ) → AllWithin n greatest_ternary (λ k. ternary_coefficient (drawn_secret words k))
 drawn_secret_within n words k below = ternary_coefficient_within (words (2 + k) % 3) (mod-lt (words (2 + k)) (lit< tt))
 
 -- ---- worked out by hand

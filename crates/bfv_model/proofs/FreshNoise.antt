@@ -8,6 +8,14 @@ use Rattle.ring_law.proofs.PolynomialRing.{polynomial_ring}
 use Rattle.ring_law.proofs.ProductPairs.{ring_product_size}
 use Rattle.ring_law.proofs.RingSolver.{identity3, identity4, variable, ◌⊕◌, ◌⊖◌, ◌⊗◌}
 use Rattle.ring_law.proofs.CommutativeRing as Ring
+use Rattle.bfv_model.specs.NoiseBounds.{fresh_bound, fresh_bound_under}
+
+-- with a key error as small as the others and a ternary secret it is the bound of a fresh cipher
+pub fresh_bound-ternary : (n t E : ℕ) → fresh_bound_under n t E E 1 ≡ fresh_bound n t E
+fresh_bound-ternary n t E = ap (λ (x : ℕ). t * x) inner
+  where
+    inner : n * E + E + n * E * 1 + 1 ≡ (2 * n + 1) * E + 1
+    inner = omega arith
 
 module _ (n q t : ℕ) (pos_n : 0 < n) (p0 p1 s e u e1 e2 m r scaled c0 c1 : ℕ → ℤ)
     (key : CongruentPolynomials q n (ring_sum p0 (ring_product n p1 s)) e)
@@ -41,26 +49,11 @@ module _ (n q t : ℕ) (pos_n : 0 < n) (p0 p1 s e u e1 e2 m r scaled c0 c1 : ℕ
       ∙ identity3 (λ a qm r. a ⊕ (qm ⊕ r ⊖ qm)) (λ a qm r. a ⊕ r) refl (pos t *ℤ (ring_product n e u k +ℤ (e1 k +ℤ ring_product n e2 s k)))
       (pos q *ℤ m k) (r k)))
 
-  -- its size
-  pub fresh_size : (E : ℕ) → AllWithin n E e → AllWithin n 1 u → AllWithin n E e1 → AllWithin n E e2 → AllWithin n 1 s → AllWithin n t r
-      → (k : ℕ) → k < n → nat_abs (noise k) ≤ t * ((2 * n + 1) * E + 1)
+  -- its size, for a secret of coefficients at most S and a key error of at most K
+  pub fresh_size : (K E S : ℕ) → AllWithin n K e → AllWithin n 1 u → AllWithin n E e1 → AllWithin n E e2 → AllWithin n S s
+      → AllWithin n t r → (k : ℕ) → k < n → nat_abs (noise k) ≤ fresh_bound_under n t E K S
   unfolding noise
-  fresh_size E he hu h1 h2 hs hr k l =
-      let a = ring_product_size n E 1 e u he hu k l in
-      let b = h1 k l in
-      let c = ring_product_size n E 1 e2 s h2 hs k l in
-      let d = hr k l in
-      let x = ring_product n e u k +ℤ (e1 k +ℤ ring_product n e2 s k) in
-      let in' : nat_abs x ≤ (2 * n + 1) * E = omega (arith, ints) in
-      let out = unsigned_abs-mul (pos t) x in
-      let f : t * nat_abs x ≤ t * ((2 * n + 1) * E) = mul-le-mul_left t in' in
-      omega (arith, ints)
-
-  -- for a secret of coefficients at most S and a key error of at most K
-  pub fresh_size_by : (K E S : ℕ) → AllWithin n K e → AllWithin n 1 u → AllWithin n E e1 → AllWithin n E e2 → AllWithin n S s
-      → AllWithin n t r → (k : ℕ) → k < n → nat_abs (noise k) ≤ t * (n * K + E + n * (E * S) + 1)
-  unfolding noise
-  fresh_size_by K E S he hu h1 h2 hs hr k l =
+  fresh_size K E S he hu h1 h2 hs hr k l =
       let a = ring_product_size n K 1 e u he hu k l in
       let b = h1 k l in
       let c = ring_product_size n E S e2 s h2 hs k l in

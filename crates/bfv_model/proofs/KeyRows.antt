@@ -13,7 +13,7 @@ use Rattle.ring_law.proofs.Moduli.{AllAboveOne-append_left, PairwiseInvertible, 
 use Rattle.ring_law.proofs.Residues.{Congruent-from_residues, residue_lt}
 use Rattle.ring_law.proofs.Rows.{represented_polynomial}
 use Rattle.ring_law.proofs.TransformEntries.{polynomial_of_entries, transform_entry-polynomial_of_entries, transform_entry_congruent}
-use Rattle.bfv_model.specs.Drawn.{digit_place, drawn_digit_mask, drawn_error, drawn_mask, drawn_public, drawn_switch}
+use Rattle.bfv_model.specs.Drawn.{digit_place, drawn_digit_mask, drawn_error, drawn_mask, drawn_public, drawn_switch, greatest_error}
 use Rattle.bfv_model.specs.Keys.{IsTransformRoot, WordsArePublicKeyOf, WordsAreSwitchKeyOf}
 use Rattle.bfv_model.proofs.CipherOperations.{part_of}
 use Rattle.bfv_model.proofs.DrawnDigits.{drawn_digit-IsSwitchKeyOf}
@@ -61,7 +61,7 @@ polynomial_of_rows log moduli roots coprime big back word reduced = joined
 
 -- the words of a drawn public key
 pub drawn_public-WordsArePublicKeyOf : (n : ℕ) (moduli : List ℕ) (s : ℕ → ℤ) (words : ℕ → ℕ) → PairwiseInvertible moduli
-    → AllAboveOne moduli → WordsArePublicKeyOf n moduli 21 (drawn_public n moduli s words) s
+    → AllAboveOne moduli → WordsArePublicKeyOf n moduli greatest_error (drawn_public n moduli s words) s
 drawn_public-WordsArePublicKeyOf n moduli s words coprime big = from (part 0 (first_reduced)) (part 1 second_reduced)
   where
     positive : (i : ℕ) → i < length moduli → 0 < slice_index moduli i
@@ -80,7 +80,7 @@ drawn_public-WordsArePublicKeyOf n moduli s words coprime big = from (part 0 (fi
 
     from : (x : ℕ → ℕ) × ((k : ℕ) → x k < product moduli) × WordsRepresent n moduli (drawn_public n moduli s words 0) (natural_polynomial x)
         → (y : ℕ → ℕ) × ((k : ℕ) → y k < product moduli) × WordsRepresent n moduli (drawn_public n moduli s words 1) (natural_polynomial y)
-        → WordsArePublicKeyOf n moduli 21 (drawn_public n moduli s words) s
+        → WordsArePublicKeyOf n moduli greatest_error (drawn_public n moduli s words) s
     from (x, x_below, first) (y, y_below, second) = record {
       part = part_of (natural_polynomial x) (natural_polynomial y) (natural_polynomial y);
       represents = rows;
@@ -143,7 +143,7 @@ module _ (log P : ℕ) (moduli roots : List ℕ) (source s : ℕ → ℤ) (words
   digit_part i j = polynomial_of_rows log (moduli ++ P ∷ []) roots coprime big (λ r below. back r (below_count r below))
       (drawn_switch log moduli P roots source s words i j) (λ r k below place. reduced i j r k below)
 
-  pub drawn_switch-WordsAreSwitchKeyOf : WordsAreSwitchKeyOf log moduli P roots 21 (drawn_switch log moduli P roots source s words) source s
+  pub drawn_switch-WordsAreSwitchKeyOf : WordsAreSwitchKeyOf log moduli P roots greatest_error (drawn_switch log moduli P roots source s words) source s
   drawn_switch-WordsAreSwitchKeyOf = record {
     part = λ j i. (digit_part i j).0;
     transforms = λ i j r k digit part row place. (digit_part i j).1 r k (in_rows r row) place;

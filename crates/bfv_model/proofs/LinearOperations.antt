@@ -15,7 +15,7 @@ use Rattle.ring_law.proofs.Sums.{sum_below_neg}
 use Rattle.ring_law.proofs.WholeNumbers.{int_neg_mul}
 use Rattle.bfv_model.specs.Holds.{Holds, phase, zero_polynomial}
 use Rattle.bfv_model.specs.Keys.{IsPublicKeyOf}
-use Rattle.bfv_model.specs.NoiseBounds.{fresh_bound}
+use Rattle.bfv_model.specs.NoiseBounds.{fresh_bound_under}
 use Rattle.bfv_model.specs.Plaintexts.{plain_product, scaled_plain}
 use Rattle.bfv_model.proofs.Noise.{Holds-equal_plain, Holds-from_congruent, Noise, noise_of, phase_of_two_parts}
 use Rattle.bfv_model.proofs.FreshNoise as Fresh
@@ -59,8 +59,8 @@ scaled_plain_words q t m h = ap (λ x. x / t) (split (div-add-mod' q t)) ∙ add
     turn a b = omega arith
 
 -- ---- fresh ciphers
-module _ (n q t E : ℕ) (p0 p1 s u e1 e2 c0 c1 : ℕ → ℤ) (m : ℕ → ℕ) (pos_n : 0 < n) (pos_t : 0 < t) (pos_q : 0 < q) (some : 0 < t * q)
-    (key : IsPublicKeyOf n q E p0 p1 s) (ternary : AllWithin n 1 s) (hu : AllWithin n 1 u) (h1 : AllWithin n E e1) (h2 : AllWithin n E e2) (plain : (k : ℕ) → k < n → m k < t)
+module _ (n q t E K S : ℕ) (p0 p1 s u e1 e2 c0 c1 : ℕ → ℤ) (m : ℕ → ℕ) (pos_n : 0 < n) (pos_t : 0 < t) (pos_q : 0 < q) (some : 0 < t * q)
+    (key : IsPublicKeyOf n q K p0 p1 s) (secret : AllWithin n S s) (hu : AllWithin n 1 u) (h1 : AllWithin n E e1) (h2 : AllWithin n E e2) (plain : (k : ℕ) → k < n → m k < t)
     (first : CongruentPolynomials q n c0 (ring_sum (ring_sum (ring_product n p0 u) e1) (λ k. pos (scaled_plain q t (m k)))))
     (second : CongruentPolynomials q n c1 (ring_sum (ring_product n p1 u) e2)) where
   error : ℕ → ℤ
@@ -77,8 +77,8 @@ module _ (n q t E : ℕ) (p0 p1 s u e1 e2 c0 c1 : ℕ → ℤ) (m : ℕ → ℕ)
   unfolding r
   scale k l = (scaled_plain_rest q t (m k) pos_t).1
 
-  -- a fresh cipher holds its plaintext within the fresh bound
-  pub Holds-fresh : Holds n q t c0 c1 zero_polynomial s m (fresh_bound n t E)
+  -- a fresh cipher holds its plaintext within the bound that the errors and the secret give
+  pub Holds-fresh : Holds n q t c0 c1 zero_polynomial s m (fresh_bound_under n t E K S)
   unfolding error r
   Holds-fresh = Holds-from_congruent
       (Fresh.noise n q t pos_n p0 p1 s error u e1 e2 (natural_polynomial m) r
@@ -88,7 +88,7 @@ module _ (n q t E : ℕ) (p0 p1 s u e1 e2 c0 c1 : ℕ → ℤ) (m : ℕ → ℕ)
       (Fresh.fresh n q t pos_n p0 p1 s error u e1 e2 (natural_polynomial m) r
       (λ k. pos (scaled_plain q t (m k))) c0 c1 key_is scale first second k l))
       (Fresh.fresh_size n q t pos_n p0 p1 s error u e1 e2 (natural_polynomial m) r
-      (λ k. pos (scaled_plain q t (m k))) c0 c1 key_is scale first second E key hu h1 h2 ternary
+      (λ k. pos (scaled_plain q t (m k))) c0 c1 key_is scale first second K E S key hu h1 h2 secret
       (λ k l. (scaled_plain_rest q t (m k) pos_t).2))
 
 -- ---- linear operations

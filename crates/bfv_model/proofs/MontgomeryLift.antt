@@ -3,9 +3,9 @@ use Rattle.std.proofs.Common.{ap, arith, mul-le-mul_left, nat_abs, neg_ℤ, pos,
 use Rattle.std.proofs.lemmas.Int.{ints, unsigned_abs-mul}
 use Rattle.ring_law.specs.Moduli.{IsFastConversion}
 use Rattle.ring_law.specs.Residues.{Congruent, HasInverse, floor_quotient}
-use Rattle.ring_law.proofs.Congruence.{Congruent-add, Congruent-cancel, Congruent-equal, Congruent-multiple, Congruent-quotient, Congruent-trans}
+use Rattle.ring_law.proofs.Congruence.{Congruent-add, Congruent-cancel, Congruent-equal, Congruent-multiple, Congruent-trans}
 use Rattle.ring_law.proofs.FastConversion.{IsFastConversion-congruent, IsFastConversion-lt}
-use Rattle.ring_law.proofs.FloorQuotients.{floor_quotient_exact, floor_quotient_unique}
+use Rattle.ring_law.proofs.FloorQuotients.{floor_quotient_unique}
 use Rattle.ring_law.proofs.RingSolver.{identity2, literal, minus, ◌⊕◌, ◌⊗◌}
 use Rattle.bfv_model.specs.Conversions.{IsMontgomeryLift}
 
@@ -48,11 +48,6 @@ montgomery_lift q M L x X r pos_q inv c h small = record { lift = h.quotient; ex
         bound : (y a r : ℕ) → y * M ≤ a + q * r → a < L * q → q * (2 * r) ≤ q * M → M * (2 * y) ≤ q * (M + 2 * L)
         bound y a r h k l = omega arith
 
--- the row of y modulo p: (X + q * r) times the inverse of M
-pub montgomery_lift_row : (p q M L : ℕ) (x X r v : ℤ) → (l : MontgomeryLift q M L x X r) → Congruent p (v *ℤ pos M) (pos 1)
-    → Congruent p l.lift ((X +ℤ pos q *ℤ r) *ℤ v)
-montgomery_lift_row p q M L x X r v l h = Congruent-quotient p M l.lift (X +ℤ pos q *ℤ r) v l.exact h
-
 -- ---- all coefficients at once
 pub IsMontgomeryLift-from : (n q M L : ℕ) (x X r : ℕ → ℤ) → 0 < q → 0 < M → HasInverse q M
     → ((k : ℕ) → k < n → IsFastConversion q L (pos M *ℤ x k) (X k)) → ((k : ℕ) → k < n → Congruent M (pos q *ℤ r k) (neg_ℤ (X k)))
@@ -67,9 +62,3 @@ IsMontgomeryLift-from n q M L x X r pos_q pos_M inv c h small = record {
 
     is : (k : ℕ) (l : k < n) → floor_quotient M (X k +ℤ pos q *ℤ r k) ≡ (one k l).lift
     is k l = floor_quotient_unique M (X k +ℤ pos q *ℤ r k) (one k l).lift pos_M (one k l).exact
-
--- the entry modulo p of a row of the lift
-pub montgomery_lift_entry : (p q M : ℕ) (X r y v : ℤ) → 0 < M → X +ℤ pos q *ℤ r ≡ y *ℤ pos M → Congruent p (v *ℤ pos M) (pos 1)
-    → Congruent p (floor_quotient M (X +ℤ pos q *ℤ r)) ((X +ℤ pos q *ℤ r) *ℤ v)
-montgomery_lift_entry p q M X r y v pos_M e h = Congruent-quotient p M (floor_quotient M (X +ℤ pos q *ℤ r)) (X +ℤ pos q *ℤ r) v
-    (floor_quotient_exact M (X +ℤ pos q *ℤ r) y pos_M e) h

@@ -21,7 +21,7 @@ use Rattle.bfv_model.proofs.KeySwitching.{switched_phase}
 use Rattle.bfv_model.proofs.Noise.{Holds-from_congruent, phase_of_two_parts}
 
 -- a phase that differs by a small polynomial modulo q
-Holds-shifted : {n q t : ℕ} {x0 x1 x2 s y0 y1 s' : ℕ → ℤ} {m : ℕ → ℕ} {W : ℕ} (Z : ℕ) (v : ℕ → ℤ) → 0 < t * q → AllWithin n Z v
+pub Holds-shifted : {n q t : ℕ} {x0 x1 x2 s y0 y1 s' : ℕ → ℤ} {m : ℕ → ℕ} {W : ℕ} (Z : ℕ) (v : ℕ → ℤ) → 0 < t * q → AllWithin n Z v
     → ((k : ℕ) → k < n → Congruent q (phase n y0 y1 zero_polynomial s' k) (phase n x0 x1 x2 s k +ℤ v k)) → Holds n q t x0 x1 x2 s m W
     → Holds n q t y0 y1 zero_polynomial s' m (W + t * Z)
 Holds-shifted {n} {q} {t} {x0} {x1} {x2} {s} {y0} {y1} {s'} {m} {W} Z v some small c h =

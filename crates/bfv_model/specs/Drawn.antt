@@ -32,6 +32,10 @@ error_sample word = pos (count_ones (word % 2 ^ 21)) -ℤ pos (count_ones (word 
 abbrev pub greatest_error : ℕ
 greatest_error = 21
 
+-- that of a ternary sample
+abbrev pub greatest_ternary : ℕ
+greatest_ternary = 1
+
 -- two words as one number, the first one high, modulo p
 abbrev pub uniform_sample : ℕ → ℕ → ℕ → ℕ
 uniform_sample p high low = (high * 2 ^ 64 + low) % p

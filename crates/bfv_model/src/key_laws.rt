@@ -5,21 +5,28 @@ ghost use Rattle.ring_law.specs.Polynomials.{AllWithin, ring_sum, ring_product, 
 ghost use Rattle.bfv_model.specs.Holds.{Holds, CipherHolds, zero_polynomial};
 ghost use Rattle.bfv_model.specs.Keys.{IsSwitchKeyOf, IsTransformRoot, WordsArePublicKeyOf, WordsAreSwitchKeyOf, StandsForProduct, switched_part};
 ghost use Rattle.bfv_model.specs.Plaintexts.{plain_turn};
-ghost use Rattle.bfv_model.specs.NoiseBounds.{fresh_bound, switch_bound};
-ghost use Rattle.bfv_model.specs.Drawn.{drawn_public, drawn_switch, drawn_cipher};
+ghost use Rattle.bfv_model.specs.NoiseBounds.{fresh_bound, fresh_bound_under, switch_bound};
+ghost use Rattle.bfv_model.specs.Drawn.{greatest_error, greatest_ternary, drawn_public, drawn_switch, drawn_cipher};
 
-/// A drawn public key is one of its secret, and a cipher that is drawn under a public key holds its
-/// plaintext within the fresh bound, under every ternary secret of that key. No drawn error is
-/// greater than 21.
+/// A drawn public key is one of its secret. A cipher that is drawn under a public key holds its
+/// plaintext under every secret of that key, within a bound that the key's error and the secret's
+/// size give: for a key with drawn errors and a ternary secret it is the fresh bound.
 pub fn law_of_fresh_ciphers()
     ensures key { (n : ℕ) (moduli : List ℕ) (s : ℕ → ℤ) (words : ℕ → ℕ)
         → PairwiseCoprime moduli → AllAboveOne moduli
-        → WordsArePublicKeyOf n moduli 21 (drawn_public n moduli s words) s }
-    ensures cipher { (n t : ℕ) (moduli : List ℕ) (key : ℕ → ℕ → ℕ → ℕ) (s : ℕ → ℤ)
+        → WordsArePublicKeyOf n moduli greatest_error (drawn_public n moduli s words) s }
+    ensures cipher { (n t key_error size : ℕ) (moduli : List ℕ) (key : ℕ → ℕ → ℕ → ℕ) (s : ℕ → ℤ)
         (m words : ℕ → ℕ) → 0 < n → 0 < t → PairwiseCoprime moduli → AllAboveOne moduli
-        → WordsArePublicKeyOf n moduli 21 key s → AllWithin n 1 s → ((k : ℕ) → k < n → m k < t)
+        → WordsArePublicKeyOf n moduli key_error key s → AllWithin n size s
+        → ((k : ℕ) → k < n → m k < t)
         → CipherHolds n moduli t (drawn_cipher n moduli (product moduli) t key m words) s m
-        (fresh_bound n t 21) }
+        (fresh_bound_under n t greatest_error key_error size) }
+    ensures ternary { (n t : ℕ) (moduli : List ℕ) (key : ℕ → ℕ → ℕ → ℕ) (s : ℕ → ℤ)
+        (m words : ℕ → ℕ) → 0 < n → 0 < t → PairwiseCoprime moduli → AllAboveOne moduli
+        → WordsArePublicKeyOf n moduli greatest_error key s → AllWithin n greatest_ternary s
+        → ((k : ℕ) → k < n → m k < t)
+        → CipherHolds n moduli t (drawn_cipher n moduli (product moduli) t key m words) s m
+        (fresh_bound n t greatest_error) }
 {}
 
 /// A drawn switching key is one from its source to its secret.
@@ -28,7 +35,7 @@ pub fn law_of_drawn_switches()
         → PairwiseCoprime (moduli ++ P ∷ []) → AllAboveOne (moduli ++ P ∷ [])
         → ((r : ℕ) → r < length moduli + 1
         → IsTransformRoot log (slice_index (moduli ++ P ∷ []) r) (slice_index roots r))
-        → WordsAreSwitchKeyOf log moduli P roots 21
+        → WordsAreSwitchKeyOf log moduli P roots greatest_error
         (drawn_switch log moduli P roots source s words) source s }
 {}
 
