@@ -8,7 +8,7 @@ use Rattle.ring_law.specs.Rows.{WordsRepresent, natural_polynomial}
 use Rattle.ring_law.proofs.Congruence.{Congruent-add, Congruent-equal, Congruent-neg, Congruent-refl, Congruent-sym, Congruent-trans}
 use Rattle.ring_law.proofs.Moduli.{PairwiseInvertible, positive_from_above_one, product_positive}
 use Rattle.ring_law.proofs.PolynomialRing.{ring_product_congruent}
-use Rattle.ring_law.proofs.Residues.{Congruent-centred_residue, Congruent-residue, centred_residue_least, residue_unique}
+use Rattle.ring_law.proofs.Residues.{Congruent-centred_residue, Congruent-residue, centred_residue_least}
 use Rattle.ring_law.proofs.Rows.{WordsRepresent-unique}
 use Rattle.bfv_model.specs.Conversions.{IsMontgomeryLift, IsScaledQuotient}
 use Rattle.bfv_model.specs.Holds.{CipherHolds, Holds, zero_polynomial}
@@ -71,12 +71,6 @@ CipherHolds-product {n} {t} {M} {W1} {W2} {qs} {a} {b} {s} {u0} {u1} {v0} {v1} {
     rows (suc zero) l = r1
     rows (suc (suc zero)) l = r2
     rows (suc (suc (suc j))) l = absurd (omega arith)
-
--- ---- rows of the results of operations: a row entry that is congruent to the operation on representatives
-pub WordsRepresent-by : (n : ℕ) (qs : List ℕ) (row : ℕ → ℕ → ℕ) (z : ℕ → ℤ)
-    → ((i k : ℕ) → i < length qs → k < n → (row i k < slice_index qs i) × Congruent (slice_index qs i) (pos (row i k)) (z k))
-    → WordsRepresent n qs row z
-WordsRepresent-by n qs row z h i k b l = residue_unique (slice_index qs i) (z k) (row i k) (h i k b l).0 (h i k b l).1
 
 -- a word is congruent to what it represents
 pub WordsRepresent-word : (n : ℕ) (qs : List ℕ) (row : ℕ → ℕ → ℕ) (x : ℕ → ℤ) → AllAboveOne qs → WordsRepresent n qs row x → (i k : ℕ)

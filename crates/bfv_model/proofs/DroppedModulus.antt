@@ -1,10 +1,10 @@
 -- Dropping a modulus P: division of x less its centred residue.
-use Rattle.std.proofs.Common.{ap, arith, nat_abs, neg_ℤ, pos, refl, ℕ, ℤ, ◌*ℤ◌, ◌*◌, ◌+ℤ◌, ◌-ℤ◌, ◌<◌, ◌∙◌, ◌≡◌, ◌≤◌}
+use Rattle.std.proofs.Common.{ap, arith, neg_ℤ, pos, refl, ℕ, ℤ, ◌*ℤ◌, ◌+ℤ◌, ◌-ℤ◌, ◌<◌, ◌∙◌, ◌≡◌}
 use Rattle.std.proofs.lemmas.Int.{ints}
 use Rattle.ring_law.specs.Residues.{Congruent, centred_residue}
 use Rattle.ring_law.proofs.Congruence.{Congruent-add, Congruent-mul, Congruent-quotient, Congruent-refl, Congruent-sym, Congruent-trans}
 use Rattle.ring_law.proofs.FloorQuotients.{floor_quotient_exact}
-use Rattle.ring_law.proofs.Residues.{Congruent-centred_residue, centred_residue_size}
+use Rattle.ring_law.proofs.Residues.{Congruent-centred_residue}
 use Rattle.ring_law.proofs.RingSolver.{identity2, ◌⊕◌, ◌⊖◌}
 use Rattle.bfv_model.specs.Keys.{dropped_quotient}
 
@@ -20,14 +20,6 @@ dropped_quotient_equation P x h = recombined (dropped_quotient P x *ℤ pos P)
 
     recombined : (y : ℤ) → x -ℤ centred_residue P x ≡ y → x ≡ y +ℤ centred_residue P x
     recombined y e = omega (arith, ints)
-
--- and within one half of x / P
-pub dropped_quotient_near : (P : ℕ) (x : ℤ) → 0 < P → 2 * nat_abs (dropped_quotient P x *ℤ pos P -ℤ x) ≤ P
-dropped_quotient_near P x h = turn (dropped_quotient P x *ℤ pos P) (centred_residue P x) (dropped_quotient_equation P x h)
-    (centred_residue_size P x h)
-  where
-    turn : (y r : ℤ) → x ≡ y +ℤ r → 2 * nat_abs r ≤ P → 2 * nat_abs (y -ℤ x) ≤ P
-    turn y r e s = omega (arith, ints)
 
 -- the row modulo p, from the row xp of x: (xp - r) times the inverse of P
 pub dropped_quotient_row : (p P : ℕ) (x xp v : ℤ) → 0 < P → Congruent p xp x → Congruent p (v *ℤ pos P) (pos 1)

@@ -32,4 +32,5 @@ pub mod DrawnSamples
 pub mod DrawnKeys
 pub mod DrawnDigits
 pub mod KeyRows
+pub mod SetKeys
 pub mod DrawnFiles

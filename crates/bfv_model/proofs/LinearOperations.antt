@@ -1,6 +1,5 @@
 -- What fresh ciphers and the results of linear operations hold.
 use Rattle.std.proofs.Common.{[], ap, ap₂, arith, div-add-mod', mod-lt, mul-le-mul_left, nat_abs, neg_ℤ, pos, refl, subst, sym, ℕ, ℤ, ◌%◌, ◌*ℤ◌, ◌*◌, ◌+ℤ◌, ◌+◌, ◌-ℤ◌, ◌/◌, ◌<◌, ◌∙◌, ◌∷◌, ◌≡◌, ◌≤◌}
-use Rattle.std.proofs.Math.Nat.{add-mul-div_right}
 use Rattle.std.proofs.lemmas.Int.{ints, unsigned_abs-mul}
 use Rattle.ring_law.specs.Polynomials.{AllWithin, CongruentPolynomials, ring_negative, ring_product, ring_sum}
 use Rattle.ring_law.specs.Residues.{Congruent, centred_residue, residue}
@@ -43,20 +42,6 @@ scaled_plain_rest q t m h = (
       (q * m + t / 2) / t * t = omega arith in omega (arith, ints),
   let l = mod-lt (q * m + t / 2) h in omega (arith, ints),
 )
-
--- in words: no product of q and m
-pub scaled_plain_words : (q t m : ℕ) → 0 < t → scaled_plain q t m ≡ q / t * m + (q % t * m + t / 2) / t
-scaled_plain_words q t m h = ap (λ x. x / t) (split (div-add-mod' q t)) ∙ add-mul-div_right (q % t * m + t / 2) (q / t * m) h ∙ turn
-    ((q % t * m + t / 2) / t) (q / t * m)
-  where
-    split : q / t * t + q % t ≡ q → q * m + t / 2 ≡ q % t * m + t / 2 + q / t * m * t
-    split e = ap (λ a. a * m + t / 2) (sym e) ∙ spread (q / t) (q % t)
-      where
-        spread : (a b : ℕ) → (a * t + b) * m + t / 2 ≡ b * m + t / 2 + a * m * t
-        spread a b = omega arith
-
-    turn : (a b : ℕ) → a + b ≡ b + a
-    turn a b = omega arith
 
 -- ---- fresh ciphers
 module _ (n q t E K S : ℕ) (p0 p1 s u e1 e2 c0 c1 : ℕ → ℤ) (m : ℕ → ℕ) (pos_n : 0 < n) (pos_t : 0 < t) (pos_q : 0 < q) (some : 0 < t * q)

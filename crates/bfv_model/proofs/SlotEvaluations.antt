@@ -40,10 +40,6 @@ module _ (t x u : ℕ) (minus_one : Congruent t (pos (x ^ (2 ^ suc (suc u)))) (n
   abbrev value_at_slot : ℕ → (ℕ → ℤ) → ℤ
   value_at_slot i a = evaluation (2 ^ suc (suc u)) x (slot_power (2 ^ suc (suc u)) i) a
 
-  value_at_odd : (i h : ℕ) (a : ℕ → ℤ) → slot_power (2 ^ suc (suc u)) i ≡ 2 * h + 1
-      → value_at_slot i a ≡ evaluation (2 ^ suc (suc u)) x (2 * h + 1) a
-  value_at_odd i h a e = ap (λ p. evaluation (2 ^ suc (suc u)) x p a) e
-
   -- the value of a product in a slot
   pub value_at_slot-ring_product : (i : ℕ) (a b : ℕ → ℤ) → i < 2 ^ suc (suc u)
       → Congruent t (value_at_slot i (ring_product (2 ^ suc (suc u)) a b)) (value_at_slot i a *ℤ value_at_slot i b)

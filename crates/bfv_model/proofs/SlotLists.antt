@@ -14,10 +14,6 @@ module _ (t x u h : ℕ) (odd : t ≡ 2 * h + 1) (minus_one : Congruent t (pos (
   both : 2 * 2 ^ u + 2 * 2 ^ u ≡ 2 ^ suc (suc u)
   both = omega arith
 
-  -- the place from which a turned row takes
-  from_place : (i j k p : ℕ) → j < p → i ≡ i / p * p + j → i % p ≡ j → i / p * p + (i % p + k) % p ≡ i / p * p + (j + k) % p
-  from_place i j k p l e f = ap (λ y. i / p * p + (y + k) % p) f
-
   -- the turn by the element 3^k turns both halves left by k
   pub slots-turn : (k : ℕ) (a : ℕ → ℤ) → k < 2 * 2 ^ u
       → slots (2 ^ suc (suc u)) t x (ring_turn (2 ^ suc (suc u)) (3 ^ k % (2 * 2 ^ suc (suc u))) a) ≡ turned_left (2 * 2 ^ u) k

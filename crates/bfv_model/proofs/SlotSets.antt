@@ -25,7 +25,7 @@ pub record SlotsExist (set : SetName) : Type 0 where
   pub odd : plain_of set ≡ 2 * half + 1
   pub minus_one : Congruent (plain_of set) (pos (plain_root_of set ^ degree_of set)) (neg_ℤ (pos 1))
 
-minus_one_from : (t y : ℕ) → 0 < t → y % t ≡ t - 1 → Congruent t (pos y) (neg_ℤ (pos 1))
+pub minus_one_from : (t y : ℕ) → 0 < t → y % t ≡ t - 1 → Congruent t (pos y) (neg_ℤ (pos 1))
 minus_one_from t y positive is =
     Congruent-trans t (Congruent-sym t (Congruent-mod t y positive))
     (Congruent-trans t (Congruent-equal t (ap pos is)) (modulus_less_one t positive))

@@ -1,23 +1,19 @@
 -- What relinearised and turned ciphers hold.
-use Rattle.std.proofs.Common.{List, ap, arith, mul-le-mul_left, nat_abs, neg_ℤ, pos, refl, subst, sym, ℕ, ℤ, ◌*ℤ◌, ◌*◌, ◌+ℤ◌, ◌+◌, ◌-ℤ◌, ◌<◌, ◌^◌, ◌∙◌, ◌≡◌, ◌≤◌}
+use Rattle.std.proofs.Common.{ap, arith, mul-le-mul_left, nat_abs, neg_ℤ, pos, refl, subst, sym, ℕ, ℤ, ◌*ℤ◌, ◌*◌, ◌+ℤ◌, ◌+◌, ◌-ℤ◌, ◌<◌, ◌^◌, ◌∙◌, ◌≡◌, ◌≤◌}
 use Rattle.std.proofs.lemmas.Int.{ints, unsigned_abs-mul}
-use Rattle.ring_law.specs.Moduli.{AllAboveOne, product}
 use Rattle.ring_law.specs.Polynomials.{AllWithin, power_coefficient, ring_product, ring_sum, ring_turn}
 use Rattle.ring_law.specs.Residues.{Congruent, HasInverse, centred_residue, residue}
 use Rattle.ring_law.specs.Rows.{natural_polynomial}
 use Rattle.ring_law.proofs.Congruence.{Congruent-add, Congruent-equal, Congruent-neg, Congruent-refl, Congruent-scaled, Congruent-sym, Congruent-trans}
 use Rattle.ring_law.proofs.Inverses.{HasInverse-odd}
-use Rattle.ring_law.proofs.Moduli.{PairwiseInvertible}
 use Rattle.ring_law.proofs.PowerCoefficients.{power_coefficient_odd_round}
 use Rattle.ring_law.proofs.Residues.{Congruent-centred_residue, Congruent-residue, residue_lt}
 use Rattle.ring_law.proofs.RingProduct.{ring_product_add}
 use Rattle.ring_law.proofs.RingSolver.{identity4, minus, ◌⊕◌, ◌⊖◌, ◌⊗◌}
 use Rattle.ring_law.proofs.RingTurn.{ring_turn_add, ring_turn_congruent, ring_turn_product, ring_turn_scale, ring_turn_within}
 use Rattle.bfv_model.specs.Holds.{Holds, phase, zero_polynomial}
-use Rattle.bfv_model.specs.Keys.{IsSwitchKeyOf, StandsForProduct, switched_part}
-use Rattle.bfv_model.specs.NoiseBounds.{switch_bound}
+use Rattle.bfv_model.specs.Keys.{StandsForProduct}
 use Rattle.bfv_model.specs.Plaintexts.{plain_turn}
-use Rattle.bfv_model.proofs.KeySwitching.{switched_phase}
 use Rattle.bfv_model.proofs.Noise.{Holds-from_congruent, phase_of_two_parts}
 
 -- a phase that differs by a small polynomial modulo q
@@ -142,25 +138,6 @@ module _ {n q t W : ℕ} {c0 c1 s : ℕ → ℤ} {m : ℕ → ℕ} (g : ℕ) (po
 
       cancel : (a b : ℤ) → a +ℤ b +ℤ neg_ℤ b ≡ a
       cancel a b = omega (arith, ints)
-
--- ---- relinearisation, turn and swap whole, from the relation of the key
-module _ (n P E t W : ℕ) (qs : List ℕ) (pos_n : 0 < n) (pos_P : 0 < P) (pos_t : 0 < t) (pos_q : 0 < product qs) (some : 0 < t * product qs) (cop : PairwiseInvertible qs) (big : AllAboveOne qs) (s : ℕ → ℤ) (k0 k1 : ℕ → ℕ → ℤ) (ternary : AllWithin n 1 s) (m : ℕ → ℕ) where
-  -- relinearisation with a key
-  pub Holds-relin_step : (c0 c1 c2 : ℕ → ℤ) → IsSwitchKeyOf n qs P E k0 k1 (ring_product n s s) s → Holds n (product qs) t c0 c1 c2 s m W
-      → Holds n (product qs) t (ring_sum c0 (switched_part n qs P c2 k0)) (ring_sum c1 (switched_part n qs P c2 k1)) zero_polynomial s m
-      (W + t * switch_bound n E P qs)
-  Holds-relin_step c0 c1 c2 key h = Holds-relinearised (switch_bound n E P qs) (switched_part n qs P c2 k0)
-      (switched_part n qs P c2 k1) pos_q some h
-      (switched_phase n P E qs pos_n pos_P pos_q cop big c2 (ring_product n s s) s k0 k1 ternary key)
-
-  -- turn with a key
-  pub Holds-turn_step : (g : ℕ) (c0 c1 : ℕ → ℤ) → ((p k : ℕ) → power_coefficient n (g * (p + n)) k ≡ neg_ℤ (power_coefficient n (g * p) k))
-      → HasInverse n g → IsSwitchKeyOf n qs P E k0 k1 (ring_turn n g s) s → Holds n (product qs) t c0 c1 zero_polynomial s m W
-      → Holds n (product qs) t (ring_sum (ring_turn n g c0) (switched_part n qs P (ring_turn n g c1) k0))
-      (switched_part n qs P (ring_turn n g c1) k1) zero_polynomial s (plain_turn n g t m) (W + t * switch_bound n E P qs)
-  Holds-turn_step g c0 c1 odd inv key h = Holds-moved (switch_bound n E P qs) (switched_part n qs P (ring_turn n g c1) k0)
-      (switched_part n qs P (ring_turn n g c1) k1) pos_q some (Holds-turned g pos_n pos_t some odd inv h)
-      (switched_phase n P E qs pos_n pos_P pos_q cop big (ring_turn n g c1) (ring_turn n g s) s k0 k1 ternary key)
 
 -- ---- the turn by an odd element, for n a power of two
 pub Holds-turned_odd : {q t W : ℕ} {c0 c1 s : ℕ → ℤ} {m : ℕ → ℕ} (k h : ℕ) → 0 < 2 ^ k → 0 < t → 0 < t * q

@@ -8,5 +8,6 @@ pub mod Conversions
 pub mod Keys
 pub mod Plaintexts
 pub mod Drawn
+pub mod SwitchKeys
 pub mod DrawnFiles
 pub mod NoiseBounds

@@ -1,9 +1,13 @@
 //! What keys and fresh ciphers are, and what key switching leaves.
-ghost use Rattle.std.specs.Prelude.{◌<◌, ◌+◌, ◌*◌, ◌^◌, ℕ, ℤ, List, [], ◌∷◌, ◌++◌, length, slice_index};
+ghost use Rattle.std.specs.Prelude.{◌≡◌, ◌<◌, ◌+◌, ◌*◌, ◌^◌, ℕ, ℤ, List, [], ◌∷◌, ◌++◌, length, slice_index, Contains, Some, unwrap_or};
+ghost use Rattle.set_table.specs.declared.SetName.{SetName};
+ghost use Rattle.set_table.specs.Sets.{data_of, special_of, transform_moduli_of, log_degree_of};
+ghost use Rattle.set_table.specs.Roots.{root_of};
 ghost use Rattle.ring_law.specs.Moduli.{PairwiseCoprime, AllAboveOne, product};
 ghost use Rattle.ring_law.specs.Polynomials.{AllWithin, ring_sum, ring_product, ring_turn};
 ghost use Rattle.bfv_model.specs.Holds.{Holds, CipherHolds, zero_polynomial};
 ghost use Rattle.bfv_model.specs.Keys.{IsSwitchKeyOf, IsTransformRoot, WordsArePublicKeyOf, WordsAreSwitchKeyOf, StandsForProduct, switched_part};
+ghost use Rattle.bfv_model.specs.SwitchKeys.{IsSwitchKeyIn, key_roots_of};
 ghost use Rattle.bfv_model.specs.Plaintexts.{plain_turn};
 ghost use Rattle.bfv_model.specs.NoiseBounds.{fresh_bound, fresh_bound_under, switch_bound};
 ghost use Rattle.bfv_model.specs.Drawn.{greatest_error, greatest_ternary, drawn_public, drawn_switch, drawn_cipher};
@@ -29,14 +33,25 @@ pub fn law_of_fresh_ciphers()
         (fresh_bound n t greatest_error) }
 {}
 
-/// A drawn switching key is one from its source to its secret.
+/// In each set the moduli under which rows are transformed have their listed roots.
+pub fn law_of_roots()
+    ensures { (set : SetName) (q : ℕ) → Contains (transform_moduli_of set) q
+        → IsTransformRoot (log_degree_of set) q (unwrap_or (root_of set q) 0) }
+{}
+
+/// A drawn switching key is one from its source to its secret: of any moduli with roots, and so of
+/// each set that has a special modulus.
 pub fn law_of_drawn_switches()
-    ensures { (log P : ℕ) (moduli roots : List ℕ) (source s : ℕ → ℤ) (words : ℕ → ℕ)
+    ensures words { (log P : ℕ) (moduli roots : List ℕ) (source s : ℕ → ℤ) (words : ℕ → ℕ)
         → PairwiseCoprime (moduli ++ P ∷ []) → AllAboveOne (moduli ++ P ∷ [])
         → ((r : ℕ) → r < length moduli + 1
         → IsTransformRoot log (slice_index (moduli ++ P ∷ []) r) (slice_index roots r))
         → WordsAreSwitchKeyOf log moduli P roots greatest_error
         (drawn_switch log moduli P roots source s words) source s }
+    ensures in_set { (set : SetName) (P : ℕ) (source s : ℕ → ℤ) (words : ℕ → ℕ)
+        → special_of set ≡ Some P
+        → IsSwitchKeyIn set (drawn_switch (log_degree_of set) (data_of set) P (key_roots_of set)
+        source s words) source s }
 {}
 
 /// The digits of a part times a switching key stand for the part times the key's source, within the

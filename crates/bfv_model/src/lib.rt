@@ -14,6 +14,7 @@ pub use decryption_laws::{law_of_residue_decryption, law_of_rounding};
 pub use file_kind::FileKind;
 pub use file_laws::law_of_files;
 pub use key_laws::{
-    law_of_drawn_switches, law_of_fresh_ciphers, law_of_key_switching, law_of_switched_ciphers,
+    law_of_drawn_switches, law_of_fresh_ciphers, law_of_key_switching, law_of_roots,
+    law_of_switched_ciphers,
 };
 pub use slot_laws::{law_of_encoding, law_of_slots};
