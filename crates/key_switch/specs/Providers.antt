@@ -1,5 +1,5 @@
 -- What a provider of switching keys looks like from outside.
-use Rattle.std.specs.Prelude.{◌≡◌, ℕ, ◌<◌, ◌≤◌, List, Option, Some, Result, IfErr, IsErrOf}
+use Rattle.std.specs.Prelude.{◌≡◌, ℕ, ◌<◌, ◌≤◌, List, Option, Some, Result, IfErr, IsErrOf, OnOk}
 use Rattle.set_table.specs.declared.SetName.{SetName}
 use Rattle.set_table.specs.declared.KeyKind.{KeyKind}
 use Rattle.outer_io.specs.Store.{Rose}
@@ -25,10 +25,11 @@ pub record Keeps (old new : KeysState) : Type 0 where
   pub pairs : new.pairs ≡ old.pairs
   pub faults : old.faults ≤ new.faults
 
--- A call answers a fault only where the count rose, and the fault is then the provider's last one.
+-- A call answers a fault only where the count rose, and the fault is then the provider's last one, which stays at an Ok.
 pub record FaultCause {T : Type 0} (old new : KeysState) (result : Result T KeyFault) : Type 0 where
   pub rose : IfErr result (λ _. Rose old.faults new.faults)
   pub last : IfErr result (λ fault. new.last ≡ Some fault)
+  pub stays : OnOk result (new.last ≡ old.last)
 
 -- the rows of a digit, with `count` rows in each of its two parts, have these words, by part, row and place
 abbrev pub AreDigitRows : ℕ → ℕ → List (List ℕ) → (ℕ → ℕ → ℕ → ℕ) → Type 0

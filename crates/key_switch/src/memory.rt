@@ -82,6 +82,8 @@ impl<const N: usize> Keys<N> for MemKeys<N> {
         ensures keeps { Keeps (memory_state self.old) (memory_state self.new) }
         ensures cause { FaultCause (memory_state self.old) (memory_state self.new) result }
         ensures below { OnOk result (ReducedInTurn N (length (data_of (self.old).set) + 1) (key_of (self.old).set) into.new) }
+        ensures kept { ReducedInTurn N (length (data_of (self.old).set) + 1) (key_of (self.old).set) into.old
+            → ReducedInTurn N (length (data_of (self.old).set) + 1) (key_of (self.old).set) into.new }
         ensures tells { (digits : Digits) → digits ≡ digits_of (self.old).set (self.old).keys → digits ≡ digits_of (self.new).set (self.new).keys }
         ensures told { (digits : Digits) → digits ≡ digits_of (self.old).set (self.old).keys
             → OnOk result (AreDigitRows N (length (data_of (self.old).set) + 1) into.new (digits kind element i)) }

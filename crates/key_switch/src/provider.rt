@@ -35,7 +35,7 @@ pub trait Keys<const N: usize> {
 
     /// Writes digit `i` of a key in transformed form: the rows of its two parts, of which each has a
     /// row for each data modulus of the set and then one for the special modulus. After an error the
-    /// rows have no meaning.
+    /// rows have no meaning, but reduced ones stay reduced.
     fn digit(
         &mut self,
         kind: KeyKind,
@@ -51,6 +51,8 @@ pub trait Keys<const N: usize> {
         ensures origin { origin self.new ≡ origin self.old }
         ensures cause { FaultCause (state self.old) (state self.new) result }
         ensures below { OnOk result (ReducedInTurn N (length (data_of (state self.old).set) + 1) (key_of (state self.old).set) into.new) }
+        ensures kept { ReducedInTurn N (length (data_of (state self.old).set) + 1) (key_of (state self.old).set) into.old
+            → ReducedInTurn N (length (data_of (state self.old).set) + 1) (key_of (state self.old).set) into.new }
         ensures tells { (digits : Digits) → Tells self.old digits → Tells self.new digits }
         ensures told { (digits : Digits) → Tells self.old digits
             → OnOk result (AreDigitRows N (length (data_of (state self.old).set) + 1) into.new (digits kind element i)) }

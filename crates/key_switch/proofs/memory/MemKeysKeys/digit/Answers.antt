@@ -40,3 +40,6 @@ returns-clause-below g c =
     = c.data_count.ensures ∙ ap (λ (m : MemKeysValue). length (data_of m.set)) c.self.view_is in
     subst (λ (n : ℕ). ReducedInTurn g.row.N (n + 1) (key_of c.args.self.now.set) c.write_digit.new.into) count
     (subst (λ (set : SetName). ReducedInTurn g.row.N (c.data_count.result + 1) (key_of set) c.write_digit.new.into) of_set c.write_digit.ensures.below)
+
+pub returns-clause-kept : goal.returns-clause-kept
+returns-clause-kept g c = λ _. returns-clause-below g c
