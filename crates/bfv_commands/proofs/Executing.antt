@@ -43,17 +43,17 @@ use Rattle.bfv_commands.proofs.Decryptions.{at_all_moduli}
 -- ---- scripts have cipher inputs
 -- no operation fits where there is no register
 no_operand : (set : SetName) (plains : ℕ) (op : Op) → Fits set plains [] op → ⊥
-no_operand set plains (Add a b) fits = let below = fits.0 in omega arith
-no_operand set plains (Sub a b) fits = let below = fits.0 in omega arith
-no_operand set plains (Neg a) fits = omega arith
-no_operand set plains (AddPlain a p) fits = let below = fits.0 in omega arith
-no_operand set plains (SubPlain a p) fits = let below = fits.0 in omega arith
-no_operand set plains (MulPlain a p) fits = let below = fits.0 in omega arith
-no_operand set plains (MulConst a k) fits = let below = fits.0 in omega arith
-no_operand set plains (Mul a b) fits = let none = fits.0 in cc
-no_operand set plains (Relin a) fits = cc
-no_operand set plains (Turn a k) fits = let none = fits.0 in cc
-no_operand set plains (Swap a) fits = cc
+no_operand set plains (Add a b) fits = let below = fits.operands.0 in omega arith
+no_operand set plains (Sub a b) fits = let below = fits.operands.0 in omega arith
+no_operand set plains (Neg a) fits = let below = fits.operands.0 in omega arith
+no_operand set plains (AddPlain a p) fits = let below = fits.operands.0 in omega arith
+no_operand set plains (SubPlain a p) fits = let below = fits.operands.0 in omega arith
+no_operand set plains (MulPlain a p) fits = let below = fits.operands.0 in omega arith
+no_operand set plains (MulConst a k) fits = let below = fits.operands.0 in omega arith
+no_operand set plains (Mul a b) fits = let below = fits.operands.0 in omega arith
+no_operand set plains (Relin a) fits = let below = fits.operands.0 in omega arith
+no_operand set plains (Turn a k) fits = let below = fits.operands.0 in omega arith
+no_operand set plains (Swap a) fits = let below = fits.operands.0 in omega arith
 
 no_output : (set : SetName) (plains output : ℕ) (steps : List Step) → AllFit set plains [] steps → output < length steps → ⊥
 no_output set plains output [] fit below = omega arith

@@ -24,13 +24,13 @@ greater_part a b (inr x) (inl y) = inr (ap₂ max x y)
 greater_part a b (inr x) (inr y) = inr (ap₂ max x y)
 
 part_made : (set : SetName) (plains : ℕ) (parts : List ℕ) (op : Op) → Fits set plains parts op → AllTwoOrThree parts → IsTwoOrThree (parts_made parts op)
-part_made set plains parts (Add a b) fits all = greater_part (slice_index parts a) (slice_index parts b) (all a fits.0) (all b fits.1)
-part_made set plains parts (Sub a b) fits all = greater_part (slice_index parts a) (slice_index parts b) (all a fits.0) (all b fits.1)
-part_made set plains parts (Neg a) fits all = all a fits
-part_made set plains parts (AddPlain a p) fits all = all a fits.0
-part_made set plains parts (SubPlain a p) fits all = all a fits.0
-part_made set plains parts (MulPlain a p) fits all = all a fits.0
-part_made set plains parts (MulConst a k) fits all = all a fits.0
+part_made set plains parts (Add a b) fits all = greater_part (slice_index parts a) (slice_index parts b) (all a fits.operands.0) (all b fits.operands.1.0)
+part_made set plains parts (Sub a b) fits all = greater_part (slice_index parts a) (slice_index parts b) (all a fits.operands.0) (all b fits.operands.1.0)
+part_made set plains parts (Neg a) fits all = all a fits.operands.0
+part_made set plains parts (AddPlain a p) fits all = all a fits.operands.0
+part_made set plains parts (SubPlain a p) fits all = all a fits.operands.0
+part_made set plains parts (MulPlain a p) fits all = all a fits.operands.0
+part_made set plains parts (MulConst a k) fits all = all a fits.operands.0
 part_made set plains parts (Mul a b) fits all = inr refl
 part_made set plains parts (Relin a) fits all = inl refl
 part_made set plains parts (Turn a k) fits all = inl refl

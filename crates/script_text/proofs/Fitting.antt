@@ -1,6 +1,5 @@
 -- The operation that a step's line gives fits the registers before it.
-use Rattle.std.proofs.Common.{◌≡◌, ◌<◌, ◌==◌, ℕ, zero, suc, ◌/◌, List, [], ◌∷◌, length, slice_index, true, Some, ap, arith}
-use Rattle.std.specs.Prelude.{slice_get}
+use Rattle.std.proofs.Common.{◌≡◌, ◌<◌, ◌==◌, ℕ, ◌/◌, List, length, slice_index, true, arith}
 use Rattle.std.proofs.lemmas.Bool.{and_parts}
 use Rattle.std.proofs.lemmas.Bool.Decides.{nat_tests}
 use Rattle.set_table.specs.declared.SetName.{SetName}
@@ -21,26 +20,22 @@ SecondFits set plains parts Plain b = b < plains
 SecondFits set plains parts Factor b = b < plain_of set
 SecondFits set plains parts Distance b = (0 < b) × (b < degree_of set / 2)
 
-read_some : (xs : List ℕ) (i n : ℕ) → (slice_index xs i == suc n) ≡ true → slice_get xs i ≡ Some (suc n)
-read_some [] i n is = absurd (grind (arith, nat_tests))
-read_some (x ∷ xs) zero n is =
-    let same : x ≡ suc n = grind (arith, nat_tests) in
-    ap (λ (y : ℕ). Some y) same
-read_some (x ∷ xs) (suc i) n is = read_some xs i n is
+same_number : (x n : ℕ) → (x == n) ≡ true → x ≡ n
+same_number x n is = grind (arith, nat_tests)
 
 pub operation_fits : (set : SetName) (plains : ℕ) (parts : List ℕ) (k : Keyword) (a b : ℕ) → a < length parts → SecondFits set plains parts (second_of k) b
     → has_shape parts (operation k a b) ≡ true → Fits set plains parts (operation k a b)
 unfolding has_shape
-operation_fits set plains parts keyword.Add a b first second shape = (first, second)
-operation_fits set plains parts keyword.Sub a b first second shape = (first, second)
-operation_fits set plains parts keyword.Neg a b first second shape = first
-operation_fits set plains parts keyword.AddPlain a b first second shape = (first, second)
-operation_fits set plains parts keyword.SubPlain a b first second shape = (first, second)
-operation_fits set plains parts keyword.MulPlain a b first second shape = (first, second)
-operation_fits set plains parts keyword.MulConst a b first second shape = (first, second)
+operation_fits set plains parts keyword.Add a b first second shape = record { operands = (first, (second, tt)); plain = tt; factor = tt; distance = tt; taken = tt }
+operation_fits set plains parts keyword.Sub a b first second shape = record { operands = (first, (second, tt)); plain = tt; factor = tt; distance = tt; taken = tt }
+operation_fits set plains parts keyword.Neg a b first second shape = record { operands = (first, tt); plain = tt; factor = tt; distance = tt; taken = tt }
+operation_fits set plains parts keyword.AddPlain a b first second shape = record { operands = (first, tt); plain = second; factor = tt; distance = tt; taken = tt }
+operation_fits set plains parts keyword.SubPlain a b first second shape = record { operands = (first, tt); plain = second; factor = tt; distance = tt; taken = tt }
+operation_fits set plains parts keyword.MulPlain a b first second shape = record { operands = (first, tt); plain = second; factor = tt; distance = tt; taken = tt }
+operation_fits set plains parts keyword.MulConst a b first second shape = record { operands = (first, tt); plain = tt; factor = second; distance = tt; taken = tt }
 operation_fits set plains parts keyword.Mul a b first second shape =
     let both = and_parts (slice_index parts a == 2) (slice_index parts b == 2) shape in
-    (read_some parts a 1 both.0, read_some parts b 1 both.1)
-operation_fits set plains parts keyword.Relin a b first second shape = read_some parts a 2 shape
-operation_fits set plains parts keyword.Turn a b first second shape = (read_some parts a 1 shape, second.0, second.1)
-operation_fits set plains parts keyword.Swap a b first second shape = read_some parts a 1 shape
+    record { operands = (first, (second, tt)); plain = tt; factor = tt; distance = tt; taken = (same_number _ 2 both.0, (same_number _ 2 both.1, tt)) }
+operation_fits set plains parts keyword.Relin a b first second shape = record { operands = (first, tt); plain = tt; factor = tt; distance = tt; taken = (same_number _ 3 shape, tt) }
+operation_fits set plains parts keyword.Turn a b first second shape = record { operands = (first, tt); plain = tt; factor = tt; distance = second; taken = (same_number _ 2 shape, tt) }
+operation_fits set plains parts keyword.Swap a b first second shape = record { operands = (first, tt); plain = tt; factor = tt; distance = tt; taken = (same_number _ 2 shape, tt) }

@@ -1,6 +1,6 @@
 -- The lines of a printed script give the draft of the script with the lines of its text.
 use Rattle.std.proofs.Common.{◌≡◌, ◌≢◌, ◌<◌, ◌≤◌, ◌==◌, ℕ, zero, suc, ◌+◌, ◌/◌, List, [], ◌∷◌, ◌++◌, length, map, replicate, get_or, position, Bool, true, false, not, cond, ◌&&◌, nat_lt, nat_le, Some, None, Ok, codes, refl, sym, ap, ap₂, ◌∙◌, subst, arith, append_assoc, length-append, slice_index}
-use Rattle.std.specs.Prelude.{is_none, decimal, slice_get}
+use Rattle.std.specs.Prelude.{is_none, decimal}
 use Rattle.std.specs.List.{list_all, position_or_len, filter, AllPairs}
 use Rattle.std.specs.Str.{bytes_eq}
 use Rattle.std.proofs.lemmas.Bool.{and_parts, and_from}
@@ -8,7 +8,6 @@ use Rattle.std.proofs.lemmas.Bool.Decides.{nat_tests}
 use Rattle.std.proofs.lemmas.List.{append-nil, map-append, length-map, get_or_append_left}
 use Rattle.std.proofs.lemmas.List.Sums.{AllPass-from_list_all, list_all-from_AllPass, fold-append}
 use Rattle.std.proofs.lemmas.List.Folds.{list_all-append}
-use Rattle.std.proofs.lemmas.Option.{slice_get_within, get_or_from_slice_get}
 use Rattle.std.proofs.lemmas.Slice.Eq.{bytes_eq-Decides}
 use Rattle.set_table.specs.declared.SetName.{SetName}
 use Rattle.set_table.specs.declared.SetName.TheVariants.{One16, Toy16, S4096, S8192, S16384}
@@ -191,10 +190,8 @@ record CanRead (draft : Draft) (registers plains : List (List ℕ)) : Type 0 whe
   plain : (i : ℕ) → i < length (plain_inputs draft.inputs) → (plain_named draft (get_or plains i []) ≡ Some i) × (is_name (get_or plains i []) ≡ true)
 
 -- the test of the parts that a register has
-has_parts : (parts : List ℕ) (i n : ℕ) → slice_get parts i ≡ Some n → (slice_index parts i == n) ≡ true
-has_parts parts i n is =
-    let same : slice_index parts i ≡ n = get_or_from_slice_get parts i n 0 is in
-    grind (arith, nat_tests)
+has_parts : (parts : List ℕ) (i n : ℕ) → slice_index parts i ≡ n → (slice_index parts i == n) ≡ true
+has_parts parts i n is = grind (arith, nat_tests)
 
 -- an operation that fits has the parts that it takes
 shape_fits : (set : SetName) (plains : ℕ) (parts : List ℕ) (op : Op) → Fits set plains parts op → has_shape parts op ≡ true
@@ -206,10 +203,10 @@ shape_fits set plains parts (AddPlain a p) fits = refl
 shape_fits set plains parts (SubPlain a p) fits = refl
 shape_fits set plains parts (MulPlain a p) fits = refl
 shape_fits set plains parts (MulConst a k) fits = refl
-shape_fits set plains parts (Mul a b) fits = and_from (slice_index parts a == 2) (slice_index parts b == 2) (has_parts parts a 2 fits.0) (has_parts parts b 2 fits.1)
-shape_fits set plains parts (Relin a) fits = has_parts parts a 3 fits
-shape_fits set plains parts (Turn a k) fits = has_parts parts a 2 fits.0
-shape_fits set plains parts (Swap a) fits = has_parts parts a 2 fits
+shape_fits set plains parts (Mul a b) fits = and_from (slice_index parts a == 2) (slice_index parts b == 2) (has_parts parts a 2 fits.taken.0) (has_parts parts b 2 fits.taken.1.0)
+shape_fits set plains parts (Relin a) fits = has_parts parts a 3 fits.taken.0
+shape_fits set plains parts (Turn a k) fits = has_parts parts a 2 fits.taken.0
+shape_fits set plains parts (Swap a) fits = has_parts parts a 2 fits.taken.0
 
 -- the keyword of a step is known by its text
 known : (k : Keyword) → keyword_after (codes "=") (keyword_text k) ≡ Some k
@@ -269,31 +266,31 @@ step_read : (draft : Draft) (registers plains : List (List ℕ)) (at : ℕ) (nam
     ≡ Ok (record draft { steps = draft.steps ++ record { name = name; op = op; line = at } ∷ [] })
 unfolding is_second second_value
 step_read draft registers plains at name (Add a b) can named new fits =
-    long_read draft at name keyword.Add (get_or registers a []) (get_or registers b []) a b named new (can.register a fits.0) (can.register b fits.1) (shape_fits draft.set (length (plain_inputs draft.inputs)) (parts_of draft.inputs draft.steps) (Add a b) fits)
+    long_read draft at name keyword.Add (get_or registers a []) (get_or registers b []) a b named new (can.register a fits.operands.0) (can.register b fits.operands.1.0) (shape_fits draft.set (length (plain_inputs draft.inputs)) (parts_of draft.inputs draft.steps) (Add a b) fits)
 step_read draft registers plains at name (Sub a b) can named new fits =
-    long_read draft at name keyword.Sub (get_or registers a []) (get_or registers b []) a b named new (can.register a fits.0) (can.register b fits.1) (shape_fits draft.set (length (plain_inputs draft.inputs)) (parts_of draft.inputs draft.steps) (Sub a b) fits)
+    long_read draft at name keyword.Sub (get_or registers a []) (get_or registers b []) a b named new (can.register a fits.operands.0) (can.register b fits.operands.1.0) (shape_fits draft.set (length (plain_inputs draft.inputs)) (parts_of draft.inputs draft.steps) (Sub a b) fits)
 step_read draft registers plains at name (Neg a) can named new fits =
-    short_read draft at name keyword.Neg (get_or registers a []) a named new (can.register a fits) refl (shape_fits draft.set (length (plain_inputs draft.inputs)) (parts_of draft.inputs draft.steps) (Neg a) fits)
+    short_read draft at name keyword.Neg (get_or registers a []) a named new (can.register a fits.operands.0) refl (shape_fits draft.set (length (plain_inputs draft.inputs)) (parts_of draft.inputs draft.steps) (Neg a) fits)
 step_read draft registers plains at name (AddPlain a p) can named new fits =
-    long_read draft at name keyword.AddPlain (get_or registers a []) (get_or plains p []) a p named new (can.register a fits.0) (can.plain p fits.1) (shape_fits draft.set (length (plain_inputs draft.inputs)) (parts_of draft.inputs draft.steps) (AddPlain a p) fits)
+    long_read draft at name keyword.AddPlain (get_or registers a []) (get_or plains p []) a p named new (can.register a fits.operands.0) (can.plain p fits.plain) (shape_fits draft.set (length (plain_inputs draft.inputs)) (parts_of draft.inputs draft.steps) (AddPlain a p) fits)
 step_read draft registers plains at name (SubPlain a p) can named new fits =
-    long_read draft at name keyword.SubPlain (get_or registers a []) (get_or plains p []) a p named new (can.register a fits.0) (can.plain p fits.1) (shape_fits draft.set (length (plain_inputs draft.inputs)) (parts_of draft.inputs draft.steps) (SubPlain a p) fits)
+    long_read draft at name keyword.SubPlain (get_or registers a []) (get_or plains p []) a p named new (can.register a fits.operands.0) (can.plain p fits.plain) (shape_fits draft.set (length (plain_inputs draft.inputs)) (parts_of draft.inputs draft.steps) (SubPlain a p) fits)
 step_read draft registers plains at name (MulPlain a p) can named new fits =
-    long_read draft at name keyword.MulPlain (get_or registers a []) (get_or plains p []) a p named new (can.register a fits.0) (can.plain p fits.1) (shape_fits draft.set (length (plain_inputs draft.inputs)) (parts_of draft.inputs draft.steps) (MulPlain a p) fits)
+    long_read draft at name keyword.MulPlain (get_or registers a []) (get_or plains p []) a p named new (can.register a fits.operands.0) (can.plain p fits.plain) (shape_fits draft.set (length (plain_inputs draft.inputs)) (parts_of draft.inputs draft.steps) (MulPlain a p) fits)
 step_read draft registers plains at name (MulConst a k) can named new fits =
-    long_read draft at name keyword.MulConst (get_or registers a []) (decimal k) a k named new (can.register a fits.0) (factor_read draft k fits.1) (shape_fits draft.set (length (plain_inputs draft.inputs)) (parts_of draft.inputs draft.steps) (MulConst a k) fits)
+    long_read draft at name keyword.MulConst (get_or registers a []) (decimal k) a k named new (can.register a fits.operands.0) (factor_read draft k fits.factor) (shape_fits draft.set (length (plain_inputs draft.inputs)) (parts_of draft.inputs draft.steps) (MulConst a k) fits)
 step_read draft registers plains at name (Mul a b) can named new fits =
     let parts = parts_of draft.inputs draft.steps in
-    long_read draft at name keyword.Mul (get_or registers a []) (get_or registers b []) a b named new (can.register a (slice_get_within parts a 2 fits.0)) (can.register b (slice_get_within parts b 2 fits.1)) (shape_fits draft.set (length (plain_inputs draft.inputs)) parts (Mul a b) fits)
+    long_read draft at name keyword.Mul (get_or registers a []) (get_or registers b []) a b named new (can.register a fits.operands.0) (can.register b fits.operands.1.0) (shape_fits draft.set (length (plain_inputs draft.inputs)) parts (Mul a b) fits)
 step_read draft registers plains at name (Relin a) can named new fits =
     let parts = parts_of draft.inputs draft.steps in
-    short_read draft at name keyword.Relin (get_or registers a []) a named new (can.register a (slice_get_within parts a 3 fits)) refl (shape_fits draft.set (length (plain_inputs draft.inputs)) parts (Relin a) fits)
+    short_read draft at name keyword.Relin (get_or registers a []) a named new (can.register a fits.operands.0) refl (shape_fits draft.set (length (plain_inputs draft.inputs)) parts (Relin a) fits)
 step_read draft registers plains at name (Turn a k) can named new fits =
     let parts = parts_of draft.inputs draft.steps in
-    long_read draft at name keyword.Turn (get_or registers a []) (decimal k) a k named new (can.register a (slice_get_within parts a 2 fits.0)) (distance_read draft k fits.1 fits.2) (shape_fits draft.set (length (plain_inputs draft.inputs)) parts (Turn a k) fits)
+    long_read draft at name keyword.Turn (get_or registers a []) (decimal k) a k named new (can.register a fits.operands.0) (distance_read draft k fits.distance.0 fits.distance.1) (shape_fits draft.set (length (plain_inputs draft.inputs)) parts (Turn a k) fits)
 step_read draft registers plains at name (Swap a) can named new fits =
     let parts = parts_of draft.inputs draft.steps in
-    short_read draft at name keyword.Swap (get_or registers a []) a named new (can.register a (slice_get_within parts a 2 fits)) refl (shape_fits draft.set (length (plain_inputs draft.inputs)) parts (Swap a) fits)
+    short_read draft at name keyword.Swap (get_or registers a []) a named new (can.register a fits.operands.0) refl (shape_fits draft.set (length (plain_inputs draft.inputs)) parts (Swap a) fits)
 
 -- what a draft defines can be read, also where further names follow
 can_read : (draft : Draft) (more : List (List ℕ)) → AllDiffer (names_of draft.inputs draft.steps ++ more) → list_all is_name (names_of draft.inputs draft.steps ++ more) ≡ true

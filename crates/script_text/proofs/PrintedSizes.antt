@@ -11,7 +11,6 @@ use Rattle.std.proofs.lemmas.List.{append-nil, length-map, length-replicate}
 use Rattle.std.proofs.lemmas.List.Concat.{flat_map-append}
 use Rattle.std.proofs.lemmas.List.Elements.{All-nil, All-cons, All-head, All-tail, All-append, All-map, All-filter, All-weaker}
 use Rattle.std.proofs.lemmas.List.Sums.{AllPass-from_list_all, list_all-from_AllPass}
-use Rattle.std.proofs.lemmas.Option.{slice_get_within}
 use Rattle.set_table.specs.declared.SetName.{SetName}
 use Rattle.set_table.specs.declared.SetName.TheVariants.{One16, Toy16, S4096, S8192, S16384}
 use Rattle.set_table.specs.Sets.{name_of}
@@ -200,19 +199,17 @@ record InRange (most plains : ℕ) (op : Op) : Type 0 where
 
 -- an operation that fits some of the registers has its operands in range
 fits_in_range : (set : SetName) (most plains : ℕ) (parts : List ℕ) (op : Op) → length parts ≤ most → Fits set plains parts op → InRange most plains op
-fits_in_range set most plains parts (Add a b) short fits = record { first = omega arith; second = omega arith }
-fits_in_range set most plains parts (Sub a b) short fits = record { first = omega arith; second = omega arith }
-fits_in_range set most plains parts (Neg a) short fits = record { first = omega arith; second = tt }
-fits_in_range set most plains parts (AddPlain a p) short fits = record { first = omega arith; second = omega arith }
-fits_in_range set most plains parts (SubPlain a p) short fits = record { first = omega arith; second = omega arith }
-fits_in_range set most plains parts (MulPlain a p) short fits = record { first = omega arith; second = omega arith }
-fits_in_range set most plains parts (MulConst a k) short fits = record { first = omega arith; second = omega (arith, plain_small set) }
-fits_in_range set most plains parts (Mul a b) short fits =
-    record { first = omega (arith, slice_get_within parts a 2 fits.0); second = omega (arith, slice_get_within parts b 2 fits.1) }
-fits_in_range set most plains parts (Relin a) short fits = record { first = omega (arith, slice_get_within parts a 3 fits); second = tt }
-fits_in_range set most plains parts (Turn a k) short fits =
-    record { first = omega (arith, slice_get_within parts a 2 fits.0); second = omega (arith, degree_small set) }
-fits_in_range set most plains parts (Swap a) short fits = record { first = omega (arith, slice_get_within parts a 2 fits); second = tt }
+fits_in_range set most plains parts (Add a b) short fits = record { first = omega (arith, fits.operands.0); second = omega (arith, fits.operands.1.0) }
+fits_in_range set most plains parts (Sub a b) short fits = record { first = omega (arith, fits.operands.0); second = omega (arith, fits.operands.1.0) }
+fits_in_range set most plains parts (Neg a) short fits = record { first = omega (arith, fits.operands.0); second = tt }
+fits_in_range set most plains parts (AddPlain a p) short fits = record { first = omega (arith, fits.operands.0); second = fits.plain }
+fits_in_range set most plains parts (SubPlain a p) short fits = record { first = omega (arith, fits.operands.0); second = fits.plain }
+fits_in_range set most plains parts (MulPlain a p) short fits = record { first = omega (arith, fits.operands.0); second = fits.plain }
+fits_in_range set most plains parts (MulConst a k) short fits = record { first = omega (arith, fits.operands.0); second = omega (arith, fits.factor, plain_small set) }
+fits_in_range set most plains parts (Mul a b) short fits = record { first = omega (arith, fits.operands.0); second = omega (arith, fits.operands.1.0) }
+fits_in_range set most plains parts (Relin a) short fits = record { first = omega (arith, fits.operands.0); second = tt }
+fits_in_range set most plains parts (Turn a k) short fits = record { first = omega (arith, fits.operands.0); second = omega (arith, fits.distance.1, degree_small set) }
+fits_in_range set most plains parts (Swap a) short fits = record { first = omega (arith, fits.operands.0); second = tt }
 
 all_in_range : (set : SetName) (most plains : ℕ) (parts : List ℕ) (steps : List Step) → length parts + length steps ≤ most → AllFit set plains parts steps → All (λ step. InRange most plains step.op) steps
 all_in_range set most plains parts [] short fit = All-nil (λ (step : Step). InRange most plains step.op)

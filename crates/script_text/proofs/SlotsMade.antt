@@ -24,7 +24,7 @@ value_made-slots half t plains registers (MulPlain a p) lists within = refl
 value_made-slots half t plains registers (MulConst a k) lists within = refl
 value_made-slots half t plains registers (Mul a b) lists within = refl
 value_made-slots half t plains registers (Relin a) lists within =
-    sym (values_below-get_or (half + half) (word_at registers a) (slice_index_or registers a []) 0 (lists a [] within).0 (λ i below. refl))
+    sym (values_below-get_or (half + half) (word_at registers a) (slice_index_or registers a []) 0 (lists a [] within.0.0).0 (λ i below. refl))
 value_made-slots half t plains registers (Turn a k) lists within = ap (λ (h : ℕ). turned_left h k (slice_index_or registers a [])) (half_of half)
 value_made-slots half t plains registers (Swap a) lists within = ap (λ (h : ℕ). exchanged h (slice_index_or registers a [])) (half_of half)
 

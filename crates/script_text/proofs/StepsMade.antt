@@ -8,7 +8,6 @@ use Rattle.set_table.specs.declared.SetName.{SetName}
 use Rattle.set_table.specs.declared.SetName.TheVariants.{One16, Toy16, S4096, S8192, S16384}
 use Rattle.set_table.specs.Sets.{degree_of, plain_of}
 use Rattle.script_text.specs.declared.script.Op.{Op}
-use Rattle.script_text.specs.declared.script.Op.TheVariants.{Add, Sub, Neg, AddPlain, SubPlain, MulPlain, MulConst, Mul, Relin, Turn, Swap}
 use Rattle.script_text.specs.declared.script.Step.{Step}
 use Rattle.script_text.specs.Scripts.{Script, IsSound, Fits, AllFit, registers, parts_made, cipher_inputs, plain_inputs, is_cipher, is_plain}
 use Rattle.script_text.specs.Value.{value_made, lists_of, lists_in, value_of}
@@ -23,24 +22,6 @@ degree_halves Toy16 = refl
 degree_halves S4096 = refl
 degree_halves S8192 = refl
 degree_halves S16384 = refl
-
-get_below : (xs : List ℕ) (i x : ℕ) → slice_get xs i ≡ Some x → i < length xs
-get_below [] i x is = absurd cc
-get_below (y ∷ ys) zero x is = omega arith
-get_below (y ∷ ys) (suc i) x is = let more = get_below ys i x is in omega arith
-
-fits_within : (set : SetName) (plains : ℕ) (parts : List ℕ) (op : Op) → Fits set plains parts op → IsWithin (plain_of set) plains (length parts) op
-fits_within set plains parts (Add a b) fits = fits
-fits_within set plains parts (Sub a b) fits = fits
-fits_within set plains parts (Neg a) fits = fits
-fits_within set plains parts (AddPlain a p) fits = fits
-fits_within set plains parts (SubPlain a p) fits = fits
-fits_within set plains parts (MulPlain a p) fits = fits
-fits_within set plains parts (MulConst a k) fits = fits
-fits_within set plains parts (Mul a b) fits = (get_below parts a 2 fits.0, get_below parts b 2 fits.1)
-fits_within set plains parts (Relin a) fits = get_below parts a 3 fits
-fits_within set plains parts (Turn a k) fits = get_below parts a 2 fits.0
-fits_within set plains parts (Swap a) fits = get_below parts a 2 fits
 
 -- a step fits the registers before it
 pub fits_at : (set : SetName) (plains : ℕ) (parts : List ℕ) (steps : List Step) (i : ℕ) (step : Step) → AllFit set plains parts steps → slice_get steps i ≡ Some step
@@ -70,9 +51,8 @@ pub within_at : (script : Script) (i : ℕ) (op : Op) (t plains registers : ℕ)
 within_at script i op t plains registers sound below is t_is plains_are registers_are =
     let found = step_at script.steps i op below is in
     let fits = fits_at script.set (length (plain_inputs script.inputs)) (replicate (length (cipher_inputs script.inputs)) 2) script.steps i found.0 sound.fit found.1 in
-    let within = fits_within script.set (length (plain_inputs script.inputs)) _ found.0.op fits in
     let count = count_before script i (omega arith) in
-    rw (t_is, plains_are, registers_are, ← count, found.2) within
+    rw (t_is, plains_are, registers_are, ← count, found.2) (fits.operands, fits.plain, fits.factor)
 
 -- how many lists there are before a step
 pub lists_before : (script : Script) (n t : ℕ) (plains : List (List ℕ)) (values : List ℕ) (i : ℕ) → i ≤ length script.steps

@@ -1,11 +1,12 @@
 -- Lists of slots while a script is evaluated.
-use Rattle.std.specs.Prelude.{◌≡◌, ℕ, ◌+◌, ◌*◌, ◌/◌, ◌%◌, ◌<◌, pos, ◌-ℤ◌, neg_ℤ, Bool, List, length, slice_index, All}
+use Rattle.std.specs.Prelude.{◌≡◌, ℕ, ◌+◌, ◌*◌, ◌/◌, ◌%◌, ◌<◌, pos, ◌-ℤ◌, neg_ℤ, Bool, List, length, slice_index, All, IfSome}
+use Rattle.std.specs.List.{AllByRecursion}
 use Rattle.ring_law.specs.Residues.{residue}
 use Rattle.ring_law.specs.Rows.{word_at}
 use Rattle.script_text.specs.declared.script.InputKind.{InputKind}
 use Rattle.script_text.specs.declared.script.InputKind.TheVariants.{Cipher, Plain}
 use Rattle.script_text.specs.declared.script.Input.{Input}
-use Rattle.script_text.specs.Scripts.{is_cipher, is_plain}
+use Rattle.script_text.specs.Scripts.{is_cipher, is_plain, operands_of, plain_operand_of, factor_of}
 use Rattle.script_text.specs.declared.script.Op.{Op}
 use Rattle.script_text.specs.declared.script.Op.TheVariants.{Add, Sub, Neg, AddPlain, SubPlain, MulPlain, MulConst, Mul, Relin, Turn, Swap}
 
@@ -19,17 +20,10 @@ AreLists n t lists = All (AreValues n t) lists
 
 -- the operands are among so many registers and plain inputs, and a factor is below t
 abbrev pub IsWithin : ℕ → ℕ → ℕ → Op → Type 0
-IsWithin t plains registers (Add a b) = (a < registers) × (b < registers)
-IsWithin t plains registers (Sub a b) = (a < registers) × (b < registers)
-IsWithin t plains registers (Neg a) = a < registers
-IsWithin t plains registers (AddPlain a p) = (a < registers) × (p < plains)
-IsWithin t plains registers (SubPlain a p) = (a < registers) × (p < plains)
-IsWithin t plains registers (MulPlain a p) = (a < registers) × (p < plains)
-IsWithin t plains registers (MulConst a k) = (a < registers) × (k < t)
-IsWithin t plains registers (Mul a b) = (a < registers) × (b < registers)
-IsWithin t plains registers (Relin a) = a < registers
-IsWithin t plains registers (Turn a k) = a < registers
-IsWithin t plains registers (Swap a) = a < registers
+IsWithin t plains registers op =
+    AllByRecursion (λ register. register < registers) (operands_of op)
+    × IfSome (plain_operand_of op) (λ plain. plain < plains)
+    × IfSome (factor_of op) (λ factor. factor < t)
 
 -- slot i of what an operation makes
 abbrev pub slot_made : ℕ → ℕ → List (List ℕ) → List (List ℕ) → Op → ℕ → ℕ

@@ -1,6 +1,6 @@
 -- Scripts: what they consist of, and what holds of every one.
-use Rattle.std.specs.Prelude.{◌≡◌, ◌≢◌, ℕ, ◌+◌, ◌*◌, ◌/◌, ◌%◌, ◌^◌, ◌-◌, ◌<◌, ◌≤◌, max, Bool, true, false, List, [], ◌∷◌, ◌++◌, length, map, fold, filter, replicate, slice_index, slice_get, All, IsTrue, Option, Some, None}
-use Rattle.std.specs.List.{flat_map, AllPairs}
+use Rattle.std.specs.Prelude.{◌≡◌, ◌≢◌, ℕ, ◌+◌, ◌*◌, ◌/◌, ◌%◌, ◌^◌, ◌-◌, ◌<◌, ◌≤◌, max, Bool, true, false, List, [], ◌∷◌, ◌++◌, length, map, fold, filter, replicate, slice_index, All, IsTrue, Option, Some, None, IfSome}
+use Rattle.std.specs.List.{flat_map, AllPairs, AllByRecursion}
 use Rattle.std.specs.Option.{option_or}
 use Rattle.set_table.specs.declared.SetName.{SetName}
 use Rattle.set_table.specs.declared.KeyKind.{KeyKind}
@@ -90,19 +90,22 @@ parts_made parts (Swap a) = 2
 abbrev pub parts_of : List Input → List Step → List ℕ
 parts_of inputs steps = registers parts_made (replicate (length (cipher_inputs inputs)) 2) steps
 
--- an operation whose operands are among these registers and so many plain inputs, of the parts that it takes, with its number in range
-abbrev pub Fits : SetName → ℕ → List ℕ → Op → Type 0
-Fits set plains parts (Add a b) = (a < length parts) × (b < length parts)
-Fits set plains parts (Sub a b) = (a < length parts) × (b < length parts)
-Fits set plains parts (Neg a) = a < length parts
-Fits set plains parts (AddPlain a p) = (a < length parts) × (p < plains)
-Fits set plains parts (SubPlain a p) = (a < length parts) × (p < plains)
-Fits set plains parts (MulPlain a p) = (a < length parts) × (p < plains)
-Fits set plains parts (MulConst a k) = (a < length parts) × (k < plain_of set)
-Fits set plains parts (Mul a b) = (slice_get parts a ≡ Some 2) × (slice_get parts b ≡ Some 2)
-Fits set plains parts (Relin a) = slice_get parts a ≡ Some 3
-Fits set plains parts (Turn a k) = (slice_get parts a ≡ Some 2) × (0 < k) × (k < degree_of set / 2)
-Fits set plains parts (Swap a) = slice_get parts a ≡ Some 2
+-- how many parts an operation takes of each register that it reads, where it doesn't take any number
+abbrev pub parts_taken : Op → Option ℕ
+parts_taken (Mul a b) = Some 2
+parts_taken (Relin a) = Some 3
+parts_taken (Turn a k) = Some 2
+parts_taken (Swap a) = Some 2
+parts_taken op = None
+
+-- An operation that may follow these registers: it reads registers among them and plain inputs among so many, a factor is below t, rows
+-- of n / 2 slots are turned by less than their length but not by 0, and the registers have the parts that it takes.
+pub record Fits (set : SetName) (plains : ℕ) (parts : List ℕ) (op : Op) : Type 0 where
+  pub operands : AllByRecursion (λ register. register < length parts) (operands_of op)
+  pub plain : IfSome (plain_operand_of op) (λ plain. plain < plains)
+  pub factor : IfSome (factor_of op) (λ factor. factor < plain_of set)
+  pub distance : IfSome (distance_of op) (λ distance. (0 < distance) × (distance < degree_of set / 2))
+  pub taken : IfSome (parts_taken op) (λ n. AllByRecursion (λ register. slice_index parts register ≡ n) (operands_of op))
 
 -- the names that are defined, in order
 abbrev pub names_of : List Input → List Step → List (List ℕ)

@@ -1,0 +1,4 @@
+pub mod WordAt
+pub mod NameBytes
+pub mod Pieces
+pub mod Turns
