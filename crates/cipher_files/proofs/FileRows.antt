@@ -1,17 +1,17 @@
 -- Parts of a file that are read, and the words of its rows.
-use Rattle.std.proofs.Common.{◌≡◌, ◌≢◌, ◌⊎◌, ℕ, ◌+◌, ◌-◌, ◌*◌, ◌/◌, ◌%◌, ◌<◌, ◌≤◌, List, [], ◌++◌, length, take, get_or, set, refl, sym, ◌∙◌, ap, subst, arith, inl, inr, length-set, get_or-set_same, get_or-set_other, zero-add}
+use Rattle.std.proofs.Common.{◌≡◌, ◌≢◌, ◌⊎◌, ℕ, ◌+◌, ◌-◌, ◌*◌, ◌/◌, ◌%◌, ◌<◌, ◌≤◌, List, [], ◌∷◌, ◌++◌, length, take, get_or, set, refl, sym, ◌∙◌, ap, subst, arith, inl, inr, length-set, get_or-set_same, get_or-set_other, zero-add}
 use Rattle.std.specs.Prelude.{Some, None, slice_index, Err}
 use Rattle.std.proofs.Math.Logic.{⊎_elim}
 use Rattle.std.proofs.Math.Nat.{mul-le-mul_left}
 use Rattle.std.proofs.lemmas.Nat.{div-mul-add}
-use Rattle.std.proofs.lemmas.Bool.{cases_lt}
+use Rattle.std.proofs.lemmas.Bool.{cases_eq, cases_lt}
 use Rattle.std.proofs.lemmas.List.{get_or_past, get_or-take, get_or_append_left, length-take-le}
 use Rattle.std.proofs.Math.Seq.{get_or-append_right}
 use Rattle.set_table.specs.Sets.{degree_of}
-use Rattle.ring_law.specs.Rows.{word_at}
+use Rattle.ring_law.specs.Rows.{IsReduced, word_at}
 use Rattle.outer_io.specs.Store.{Files, file, contents}
 use Rattle.outer_io.specs.declared.faults.Damage.TheVariants.{Field, Length, Digest, NotReduced, Changed}
-use Rattle.bfv_params.specs.Rows.{ZeroFrom}
+use Rattle.bfv_params.specs.Rows.{ReducedInTurn, ZeroFrom}
 use Rattle.bfv_model.specs.Bytes.{bytes_from, number_from, words_from}
 use Rattle.bfv_model.specs.FileText.{FileContent, IsFile, row_count, row_moduli}
 use Rattle.bfv_model.specs.FileTests.{stated_count, content_at}
@@ -28,6 +28,7 @@ use Rattle.cipher_files.specs.SecondReading.{file_word, HoldsRow, HoldsRows}
 -- the first words are those of a file from a place on
 pub record WordsSoFar (files : Files) (name : List ℕ) (at done : ℕ) (out : List ℕ) : Type 0 where
   pub there : 0 < done → file files name ≡ Some (contents files name)
+  pub inside : 0 < done → at + 8 * done ≤ length (contents files name)
   pub words : (k : ℕ) → k < done → slice_index out k ≡ number_from (at + 8 * k) 8 (contents files name)
 
 -- a piece behind the first values of a list
@@ -48,11 +49,13 @@ values_more out new piece done count value is within before read k below =
 -- one more piece of words is read
 pub one_more_piece : (files : Files) (name : List ℕ) (at done count : ℕ) (buf out new piece : List ℕ) → WordsSoFar files name at done out
     → file files name ≡ Some (contents files name) → take (done + count) new ≡ take done out ++ piece → done ≤ length out
+    → at + 8 * done + 8 * count ≤ length (contents files name)
     → buf ≡ bytes_from (at + 8 * done) (8 * count) (contents files name)
     → ((k : ℕ) → k < count → slice_index piece k ≡ number_from (8 * k) 8 buf)
     → WordsSoFar files name at (done + count) new
-one_more_piece files name at done count buf out new piece so_far there is within read decoded = record {
+one_more_piece files name at done count buf out new piece so_far there is within ends read decoded = record {
   there = λ some. there;
+  inside = λ some. omega arith;
   words = values_more out new piece done count (λ k. number_from (at + 8 * k) 8 (contents files name)) is within so_far.words (λ k below.
       let place : at + 8 * done + 8 * k ≡ at + 8 * (done + k) = omega arith in
       decoded k below ∙ ap (number_from (8 * k) 8) read
@@ -60,18 +63,28 @@ one_more_piece files name at done count buf out new piece so_far there is within
       ∙ ap (λ (p : ℕ). number_from p 8 (contents files name)) place);
 }
 
--- the first rows are those of a file from a row on
-pub record RowsSoFar (files : Files) (name : List ℕ) (n start done : ℕ) (rows : List (List ℕ)) : Type 0 where
+-- the first rows are those of a file from a row on, below moduli that come in turn
+pub record RowsSoFar (files : Files) (name : List ℕ) (n start done : ℕ) (moduli : List ℕ) (rows : List (List ℕ)) : Type 0 where
   pub there : 0 < done → file files name ≡ Some (contents files name)
+  pub held : HoldsRows n (contents files name) start done moduli
   pub words : (i k : ℕ) → i < done → k < n → word_at rows i k ≡ file_word n (contents files name) (start + i) k
 
 -- one more row is read
-pub one_more_row : (files : Files) (name : List ℕ) (n start done number : ℕ) (rows : List (List ℕ)) (row : List ℕ) → done < length rows
-    → RowsSoFar files name n start done rows → number ≡ start + done → file files name ≡ Some (contents files name)
+pub one_more_row : (files : Files) (name : List ℕ) (n start done number q : ℕ) (moduli : List ℕ) (rows : List (List ℕ)) (row : List ℕ) → done < length rows
+    → RowsSoFar files name n start done moduli rows → number ≡ start + done → q ≡ slice_index moduli (done % length moduli)
+    → file files name ≡ Some (contents files name) → HoldsRow n (contents files name) number q
     → ((k : ℕ) → k < n → slice_index row k ≡ file_word n (contents files name) number k)
-    → RowsSoFar files name n start (done + 1) (set rows done row)
-one_more_row files name n start done number rows row inside before place there read = record {
+    → RowsSoFar files name n start (done + 1) moduli (set rows done row)
+one_more_row files name n start done number q moduli rows row inside before place modulus there held read = record {
   there = λ some. there;
+  held = λ i below.
+      ⊎_elim (λ (lt : i < done). before.held i lt)
+      (λ (le : done ≤ i).
+      let is : i ≡ done = omega arith in
+      subst (λ (j : ℕ). HoldsRow n (contents files name) (start + j) (slice_index moduli (j % length moduli))) (sym is)
+      (subst (λ (m : ℕ). HoldsRow n (contents files name) m (slice_index moduli (done % length moduli))) place
+      (subst (HoldsRow n (contents files name) number) modulus held)))
+      (cases_lt i done);
   words = λ i k below inner.
       ⊎_elim (λ (lt : i < done). let other : i ≢ done = omega arith in ap (λ (r : List ℕ). slice_index r k) (get_or-set_other rows done i row [] other) ∙ before.words i k lt inner)
       (λ (le : done ≤ i).
@@ -185,11 +198,20 @@ row_refused {files} {name} {n} {number} {q} {fault} told only there holds =
     (λ is. let none : file files name ≡ None = told.missing (ap Err is) in absurd (cc))
     (held_row-unchanged files name n number q fault told.fault holds)
 
+-- where a row isn't held that is one of more, these aren't held
+pub rows_refused : (files : Files) (name : List ℕ) (n number q : ℕ) (fault : FileFault) (all : Type 0)
+    → IsStoreFault fault ⊎ ((file files name ≡ Some (contents files name)) × (HoldsRow n (contents files name) number q → ⊥))
+    → (all → HoldsRow n (contents files name) number q)
+    → IsStoreFault fault ⊎ ((file files name ≡ Some (contents files name)) × (all → ⊥))
+rows_refused files name n number q fault all told one =
+    ⊎_elim (λ (s : IsStoreFault fault). inl s)
+    (λ (b : (file files name ≡ Some (contents files name)) × (HoldsRow n (contents files name) number q → ⊥)). inr (b.0, λ holds. b.1 (one holds))) told
+
 -- rows that were read have the words of the file
-pub row_read : (files : Files) (name : List ℕ) (c : FileContent) (n start done r number k : ℕ) (rows : List (List ℕ))
-    → RowsSoFar files name n start done rows → IsFile (contents files name) c → degree_of c.set ≡ n → r < done → number ≡ start + r
+pub row_read : (files : Files) (name : List ℕ) (c : FileContent) (n start done r number k : ℕ) (moduli : List ℕ) (rows : List (List ℕ))
+    → RowsSoFar files name n start done moduli rows → IsFile (contents files name) c → degree_of c.set ≡ n → r < done → number ≡ start + r
     → number < row_count c.kind c.set c.parts → k < n → word_at rows r k ≡ slice_index c.words (number * n + k)
-row_read files name c n start done r number k rows read is degree below place inside inner =
+row_read files name c n start done r number k moduli rows read is degree below place inside inner =
     read.words r k below inner ∙ ap (λ (j : ℕ). file_word n (contents files name) j k) (sym place)
     ∙ row_word (contents files name) c n number k is degree inside inner
 
@@ -203,3 +225,33 @@ file_word-place bytes number n k =
 pub row_in_turn : (n rows i q : ℕ) (bytes moduli : List ℕ) → HoldsRows n bytes 0 rows moduli → i < rows
     → q ≡ slice_index moduli (i % length moduli) → HoldsRow n bytes i q
 row_in_turn n rows i q bytes moduli holds below modulus = one_row n 0 rows i i q bytes moduli holds below (sym (zero-add i)) modulus
+
+-- one row is all that there are
+pub one_row_held : (n : ℕ) (bytes : List ℕ) (q count : ℕ) (moduli : List ℕ) → HoldsRow n bytes 0 q → count ≡ 1 → moduli ≡ q ∷ []
+    → HoldsRows n bytes 0 count moduli
+one_row_held n bytes q count moduli held one is i below =
+    let first : i ≡ 0 = omega arith in
+    subst (λ (j : ℕ). HoldsRow n bytes (0 + j) (slice_index moduli (j % length moduli))) (sym first)
+    (subst (λ (ms : List ℕ). HoldsRow n bytes 0 (slice_index ms (0 % length ms))) (sym is) held)
+
+-- counted from the first row
+pub first_rows : (n : ℕ) (bytes : List ℕ) (r k : ℕ) → file_word n bytes (0 + r) k ≡ file_word n bytes r k
+first_rows n bytes r k = ap (λ (j : ℕ). file_word n bytes j k) (zero-add r)
+
+-- two or three parts have a row
+pub some_rows : (parts count : ℕ) → (parts ≡ 2) ⊎ (parts ≡ 3) → 0 < count → 0 < parts * count
+some_rows parts count two_or_three some =
+    ⊎_elim (λ (two : parts ≡ 2). let e = ap (λ (p : ℕ). p * count) two in omega arith)
+    (λ (three : parts ≡ 3). let e = ap (λ (p : ℕ). p * count) three in omega arith) two_or_three
+
+-- rows that are reduced stay so where a reduced one is written among them
+pub reduced_set : (n count : ℕ) (moduli : List ℕ) (rows : List (List ℕ)) (row : List ℕ) (r : ℕ) → r < length rows
+    → IsReduced n (slice_index moduli (r % count)) row → ReducedInTurn n count moduli rows → ReducedInTurn n count moduli (set rows r row)
+reduced_set n count moduli rows row r inside is before i below =
+    ⊎_elim (λ (same : i ≡ r).
+    subst (λ (j : ℕ). IsReduced n (slice_index moduli (j % count)) (get_or (set rows r row) j [])) (sym same)
+    (subst (IsReduced n (slice_index moduli (r % count))) (sym (get_or-set_same rows r row [] inside)) is))
+    (λ (other : i ≢ r).
+    subst (IsReduced n (slice_index moduli (i % count))) (sym (get_or-set_other rows r i row [] other))
+    (before i (omega (arith, length-set {A = List ℕ}))))
+    (cases_eq i r)

@@ -49,7 +49,8 @@ pub fn read_again<S: Store>(
     ensures cause { FileCause (S.state store.old) (S.state store.new) result }
     ensures only { IfErr result IsSecondFault }
     ensures told { ForSome (S.state store.old).files (λ files. FileTold files name.now result
-        (λ bytes _. buf.new ≡ bytes_from at (length buf.old) bytes)
+        (λ bytes _. (buf.new ≡ bytes_from at (length buf.old) bytes)
+        × (0 < length buf.old → at + length buf.old ≤ length bytes))
         (λ bytes _. length bytes < at + length buf.old)) }
 {
     let n = store.read_at(name, at, buf)?;

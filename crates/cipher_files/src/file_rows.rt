@@ -35,7 +35,8 @@ fn read_words<S: Store>(
     ensures cause { FileCause (S.state store.old) (S.state store.new) result }
     ensures only { IfErr result IsSecondFault }
     ensures told { ForSome (S.state store.old).files (λ files. FileTold files name.now result
-        (λ bytes _. (k : ℕ) → k < length out.old → slice_index out.new k ≡ number_from (at + 8 * k) 8 bytes)
+        (λ bytes _. (at + 8 * length out.old ≤ length bytes)
+        × ((k : ℕ) → k < length out.old → slice_index out.new k ≡ number_from (at + 8 * k) 8 bytes))
         (λ bytes _. length bytes < at + 8 * length out.old)) }
 {
     let mut done = 0;
@@ -74,7 +75,8 @@ pub fn read_row<S: Store, const N: usize>(
     ensures only { IfErr result IsSecondFault }
     ensures reduced { OnOk result (IsReduced N modulus row.new) }
     ensures told { ForSome (S.state store.old).files (λ files. FileTold files name.now result
-        (λ bytes _. (k : ℕ) → k < N → slice_index row.new k ≡ file_word N bytes number k)
+        (λ bytes _. HoldsRow N bytes number modulus
+        × ((k : ℕ) → k < N → slice_index row.new k ≡ file_word N bytes number k))
         (λ bytes _. HoldsRow N bytes number modulus → ⊥)) }
 {
     let at = (HEAD_BYTES + WORD_BYTES * (number * N)) as u64;

@@ -1,20 +1,18 @@
 //! The words of a file that was scanned, read into a value of its set.
-ghost use Rattle.std.specs.Prelude.{◌≡◌, ℕ, ◌+◌, ◌*◌, ◌<◌, ◌≤◌, length, slice_index, true, Some, OnOk, IfErr, IsErrOf};
+ghost use Rattle.std.specs.Prelude.{◌≡◌, ℕ, ◌+◌, ◌*◌, ◌<◌, ◌≤◌, length, slice_index, true, Some, OnOk, IfErr};
 ghost use Rattle.std.specs.Option.{ForSome};
 ghost use Rattle.set_table.specs.Sets.{degree_of, data_of, key_of};
 ghost use Rattle.ring_law.specs.Polynomials.{AllWithin};
 ghost use Rattle.ring_law.specs.Rows.{IsReduced, listed_polynomial, word_at};
 ghost use Rattle.outer_io.specs.Store.{OnlyReads, file, contents};
-ghost use Rattle.bfv_model.specs.FileText.{FileContent, IsFile, row_count, row_moduli};
+ghost use Rattle.bfv_model.specs.FileText.{FileContent, IsFile};
 ghost use Rattle.bfv_model.specs.Holds.{listed_word, stored_word, secret_polynomial, ternary_coefficient};
 ghost use Rattle.bfv_model.specs.Keys.{stored_key_word};
 ghost use Rattle.cipher_files.specs.Heads.{wants, HeadKeepsRules, IsHeadOf};
 ghost use Rattle.cipher_files.specs.Reading.{FileCause, IsSecondFault};
-ghost use Rattle.cipher_files.specs.SecondReading.{HoldsRows, ReadsBack};
+ghost use Rattle.cipher_files.specs.SecondReading.{file_word, HoldsRows, HoldsRowsOf, RowsTold, ReadsBack};
 ghost use Rattle.bfv_params.specs.Rows.{ReducedInTurn};
 ghost use Rattle.cipher_files.specs.declared.head.Wanted.TheVariants as wanted;
-ghost use Rattle.cipher_files.specs.declared.faults.FileFault.TheVariants as fault;
-ghost use Rattle.outer_io.specs.declared.faults.Damage.TheVariants as damage;
 
 use crate::file_rows::read_row;
 use crate::row_moduli::row_modulus;
@@ -40,9 +38,8 @@ pub fn read_secret<S: Store, const N: usize>(
     ensures cause { FileCause (S.state store.old) (S.state store.new) result }
     ensures only { IfErr result IsSecondFault }
     ensures set { (into.new).set ≡ (into.old).set }
-    ensures changed { ForSome (S.state store.old).files (λ files. IsErrOf result (fault.Damaged damage.Changed)
-        → HoldsRows N (contents files name.now) 0 (row_count head.now.kind head.now.set head.now.parts)
-        (row_moduli head.now.kind head.now.set) → ⊥) }
+    ensures held { ForSome (S.state store.old).files (λ files. RowsTold files name.now result (HoldsRowsOf N head.now)
+        (λ bytes. (k : ℕ) → k < N → listed_polynomial (into.new).small k ≡ ternary_coefficient (file_word N bytes 0 k))) }
     ensures told { ForSome (S.state store.old).files (λ files. (content : FileContent)
         → file files name.now ≡ Some (contents files name.now)
         → IsFile (contents files name.now) content → IsHeadOf head.now content
@@ -94,9 +91,9 @@ pub fn read_public<S: Store, const N: usize>(
     ensures cause { FileCause (S.state store.old) (S.state store.new) result }
     ensures only { IfErr result IsSecondFault }
     ensures set { (into.new).set ≡ (into.old).set }
-    ensures changed { ForSome (S.state store.old).files (λ files. IsErrOf result (fault.Damaged damage.Changed)
-        → HoldsRows N (contents files name.now) 0 (row_count head.now.kind head.now.set head.now.parts)
-        (row_moduli head.now.kind head.now.set) → ⊥) }
+    ensures held { ForSome (S.state store.old).files (λ files. RowsTold files name.now result (HoldsRowsOf N head.now)
+        (λ bytes. (r k : ℕ) → r < 2 * length (data_of head.now.set) → k < N
+        → word_at (into.new).rows r k ≡ file_word N bytes r k)) }
     ensures told { ForSome (S.state store.old).files (λ files. (content : FileContent)
         → file files name.now ≡ Some (contents files name.now)
         → IsFile (contents files name.now) content → IsHeadOf head.now content
@@ -139,9 +136,9 @@ pub fn read_cipher<S: Store, const N: usize>(
     ensures room { (into.new).room ≡ (into.old).room }
     ensures level { (into.new).level ≡ (into.old).level }
     ensures parts { OnOk result ((into.new).parts ≡ head.now.parts) }
-    ensures changed { ForSome (S.state store.old).files (λ files. IsErrOf result (fault.Damaged damage.Changed)
-        → HoldsRows N (contents files name.now) 0 (row_count head.now.kind head.now.set head.now.parts)
-        (row_moduli head.now.kind head.now.set) → ⊥) }
+    ensures held { ForSome (S.state store.old).files (λ files. RowsTold files name.now result (HoldsRowsOf N head.now)
+        (λ bytes. (r k : ℕ) → r < head.now.parts * length (data_of head.now.set) → k < N
+        → word_at (into.new).rows r k ≡ file_word N bytes r k)) }
     ensures told { ForSome (S.state store.old).files (λ files. (content : FileContent)
         → file files name.now ≡ Some (contents files name.now)
         → IsFile (contents files name.now) content → IsHeadOf head.now content
@@ -166,7 +163,8 @@ pub fn read_cipher<S: Store, const N: usize>(
 }
 
 /// Reads digit i of a switching key: the rows of its two parts, each with a row for each data
-/// modulus and one for the special modulus, in transformed form.
+/// modulus and one for the special modulus, in transformed form. A row is copied where it was read
+/// whole and is below its modulus, so rows that were reduced stay so after any answer.
 ///
 /// `Damaged(Changed)` says that a read ended early or gave a word that isn't below its modulus.
 pub fn read_digit<S: Store, const N: usize>(
@@ -186,9 +184,13 @@ pub fn read_digit<S: Store, const N: usize>(
     ensures only { IfErr result IsSecondFault }
     ensures rows { length into.new ≡ length into.old }
     ensures reduced { OnOk result (ReducedInTurn N (length (data_of head.now.set) + 1) (key_of head.now.set) into.new) }
-    ensures changed { ForSome (S.state store.old).files (λ files. IsErrOf result (fault.Damaged damage.Changed)
-        → HoldsRows N (contents files name.now) (i * (2 * (length (data_of head.now.set) + 1)))
-        (2 * (length (data_of head.now.set) + 1)) (key_of head.now.set) → ⊥) }
+    ensures kept { ReducedInTurn N (length (data_of head.now.set) + 1) (key_of head.now.set) into.old
+        → ReducedInTurn N (length (data_of head.now.set) + 1) (key_of head.now.set) into.new }
+    ensures held { ForSome (S.state store.old).files (λ files. RowsTold files name.now result
+        (λ bytes. HoldsRows N bytes (i * (2 * (length (data_of head.now.set) + 1)))
+        (2 * (length (data_of head.now.set) + 1)) (key_of head.now.set))
+        (λ bytes. (r k : ℕ) → r < 2 * (length (data_of head.now.set) + 1) → k < N
+        → word_at into.new r k ≡ file_word N bytes (i * (2 * (length (data_of head.now.set) + 1)) + r) k)) }
     ensures told { ForSome (S.state store.old).files (λ files. (content : FileContent)
         → file files name.now ≡ Some (contents files name.now)
         → IsFile (contents files name.now) content → IsHeadOf head.now content
@@ -197,11 +199,12 @@ pub fn read_digit<S: Store, const N: usize>(
         ≡ stored_key_word N (length (data_of head.now.set) + 1) content.words i j r k)) }
 {
     let count = head.set.data_count() + 1;
+    let mut row = [0; N];
     'rows: for r in 0..into.len() {
         let number = i * (2 * count) + r;
         let modulus = row_modulus(head.kind, head.set, number as u64);
-        match read_row(store, name, number, modulus, &mut into[r]) {
-            Ok(()) => {}
+        match read_row(store, name, number, modulus, &mut row) {
+            Ok(()) => into[r] = row,
             Err(fault) => return Err(fault),
         }
     }

@@ -7,7 +7,7 @@ returns-clause-told g c = λ files told.
     let read = (c.in_ok-n.ensures.told files told).ok in
     let full : length c.args.buf.now ≤ c.in_ok-n.n = omega arith in
     record {
-      ok = (read.0, part_read _ _ c.args.buf.now c.args.at c.in_ok-n.n read.1.0 full read.1.1);
+      ok = (read.0, (part_read _ _ c.args.buf.now c.args.at c.in_ok-n.n read.1.0 full read.1.1, λ some. omega arith));
       missing = search rules;
       fault = search rules;
     }

@@ -4,6 +4,7 @@ use Rattle.std.specs.Option.{ForSome}
 use Rattle.set_table.specs.Sets.{data_of, key_of}
 use Rattle.ring_law.specs.Rows.{IsReduced}
 use Rattle.outer_io.specs.Store.{OnlyReads}
+use Rattle.bfv_params.specs.Rows.{ReducedInTurn}
 use Rattle.cipher_files.proofs.FileRows.{RowsSoFar}
 use Rattle.cipher_files.proofs.reading.read_digit.Given as goal
 
@@ -14,5 +15,6 @@ invariant-rows g l =
     record {
       keeps : OnlyReads (state l.fn.store) (state l.store);
       reduced : (r : ℕ) → r < l.r → IsReduced g.row.N (slice_index (key_of l.head.set) (r % count)) (slice_index_or l.into r []);
-      told : ForSome (state l.fn.store).files (λ files. RowsSoFar files l.name g.row.N (l.i * (2 * count)) l.r l.into);
+      kept : ReducedInTurn g.row.N count (key_of l.head.set) l.initial.into → ReducedInTurn g.row.N count (key_of l.head.set) l.into;
+      told : ForSome (state l.fn.store).files (λ files. RowsSoFar files l.name g.row.N (l.i * (2 * count)) l.r (key_of l.head.set) l.into);
     }

@@ -2,6 +2,7 @@ use Rattle.std.proofs.Common.{◌≡◌, ◌*◌, length}
 use Rattle.std.specs.Option.{ForSome}
 use Rattle.set_table.specs.Sets.{data_of}
 use Rattle.outer_io.specs.Store.{OnlyReads}
+use Rattle.bfv_model.specs.FileText.{row_moduli}
 use Rattle.cipher_files.proofs.FileRows.{RowsSoFar}
 use Rattle.cipher_files.proofs.reading.read_public.Given as goal
 
@@ -12,5 +13,5 @@ invariant-rows g l =
       keeps : OnlyReads (state l.fn.store) (state l.store);
       set : l.into.set ≡ l.fn.into.set;
       size : length l.into.rows ≡ 2 * length (data_of l.head.set);
-      told : ForSome (state l.fn.store).files (λ files. RowsSoFar files l.name g.row.N 0 l.i l.into.rows);
+      told : ForSome (state l.fn.store).files (λ files. RowsSoFar files l.name g.row.N 0 l.i (row_moduli l.head.kind l.head.set) l.into.rows);
     }
