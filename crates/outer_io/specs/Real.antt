@@ -5,7 +5,7 @@ use Rattle.std.specs.FinMap as map
 use Rattle.std.specs.String.{string_bytes}
 use Rattle.outer_io.specs.Store.{StoreState, Files}
 use Rattle.outer_io.specs.Sink.{SinkState}
-use Rattle.outer_io.specs.declared.file_store.Draft.{Draft}
+use Rattle.outer_io.specs.declared.file_store.draft.Draft.{Draft}
 
 -- how a model's value is kept: it is the tuple of its fields
 abbrev pub store_code : Coded StoreState

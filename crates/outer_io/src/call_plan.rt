@@ -1,4 +1,4 @@
-// Which calls of a store or a sink in memory fail.
+//! Which calls of a store or a sink in memory fail.
 ghost use Rattle.std.specs.Prelude.{◌≡◌, ◌↔◌, ◌++◌, [], ◌∷◌, Contains, IsTrue, OnOk, OnErr};
 ghost use Rattle.outer_io.specs.Memory.{risen};
 

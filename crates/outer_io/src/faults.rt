@@ -1,9 +1,8 @@
-// What a store, a sink and the bytes of a file are refused with.
+//! What a store, a sink and the bytes of a file are refused with.
 ghost use Rattle.std.specs.Prelude.{◌≡◌};
 ghost use Rattle.outer_io.specs.declared.faults.StoreFault.TheVariants as store;
-ghost use Rattle.outer_io.specs.declared.faults.SinkFault.TheVariants as sink;
 
-use std::alloc::{AllocError, AllocFailed};
+use std::alloc::AllocError;
 
 /// Why a call of a store didn't answer `Ok`.
 #[derive(Clone, Copy, Debug, PartialEq, Eq)]
@@ -45,21 +44,5 @@ impl From<AllocError> for StoreFault {
 
     fn from(_: AllocError) -> Self {
         StoreFault::Memory
-    }
-}
-
-impl<T: Drop> From<AllocFailed<T>> for StoreFault {
-    ghost from_gives = { λ _ e. e ≡ store.Memory };
-
-    fn from(_: AllocFailed<T>) -> Self {
-        StoreFault::Memory
-    }
-}
-
-impl From<AllocError> for SinkFault {
-    ghost from_gives = { λ _ e. e ≡ sink.Memory };
-
-    fn from(_: AllocError) -> Self {
-        SinkFault::Memory
     }
 }

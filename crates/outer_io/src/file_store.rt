@@ -1,32 +1,34 @@
-// The store of the real files. It tells nothing of what they hold.
-ghost use Rattle.std.specs.Prelude.{◌≡◌, ◌≤◌, ◌≢◌, IfOk, length};
+//! The store of the real files. It tells nothing of what they hold.
+ghost use Rattle.std.specs.Prelude.{◌≡◌, ◌≤◌, ◌≢◌};
 ghost use Rattle.outer_io.specs.Store.{Rose};
 ghost use Rattle.outer_io.specs.Real.{untold_store};
 
 use crate::{Store, StoreFault};
-use std::alloc::{AllocError, Global};
-use std::io::{ErrorKind, Read, Seek, SeekFrom, Write};
+use draft::Draft;
+use opened::{Opened, open_sized, read_named};
+use std::alloc::Global;
+use std::io;
+use std::io::ErrorKind;
 use std::marker::Model;
 use std::rt::Files;
-use std::{fs, io};
 
-/// The pending file: it is written as the part, and renamed at the commit.
-#[derive(Drop)]
-struct Draft<F: Drop> {
-    name: String,
-    part: String,
-    file: F,
-}
+mod draft;
+mod opened;
 
 /// The real files, under their paths.
 ///
+/// Only a regular file has a size, and only a regular file is replaced; a symlink is followed. A
+/// pipe or a device can be read from its front on. The file that was read last stays open until the
+/// size of a file is asked for, another file is read, or a file is begun or put in its place.
+///
 /// The pending file is written under its name with `.part` at the end; a user's file of that longer
-/// name is lost. The part of a file that can't be written or put in its place is taken away again;
-/// a store that is dropped leaves it where it is. A folder is no file: to ask for its size fails.
+/// name is lost. It is put in its place when all of it is on the disk. The part of a file that
+/// isn't put there is taken away again; a store that is dropped leaves it where it is.
 #[derive(Drop)]
 pub struct FileStore<'a, R: Files> {
     rt: &'a R,
     alloc: Global,
+    opened: Option<Opened<R::File>>,
     draft: Option<Draft<R::File>>,
     faults: u64,
     write_faults: u64,
@@ -60,6 +62,7 @@ impl<'a, R: Files> FileStore<'a, R> {
         FileStore {
             rt,
             alloc,
+            opened: None,
             draft: None,
             faults: 0,
             write_faults: 0,
@@ -72,36 +75,35 @@ impl<'a, R: Files> Store for FileStore<'a, R> {
     ghost state = { λ s. s };
 
     fn size(&mut self, name: &str) -> Result<u64, StoreFault> {
-        match self.rt.metadata(name) {
-            Ok(about) => {
-                if about.is_dir() {
-                    self.faults = self.faults.saturating_add(1);
-                    return Err(StoreFault::Failed);
-                }
-                Ok(about.len())
+        self.opened = None;
+        match open_sized(self.rt, self.alloc, name) {
+            Ok((opened, length)) => {
+                self.opened = Some(opened);
+                Ok(length)
             }
             Err(error) => Err(read_fault(&mut self.faults, &mut self.misses, &error)),
         }
     }
 
     fn read_at(&mut self, name: &str, at: u64, buf: &mut [u8]) -> Result<usize, StoreFault> {
-        let mut file = match fs::open(self.rt, name) {
-            Ok(file) => file,
-            Err(error) => return Err(read_fault(&mut self.faults, &mut self.misses, &error)),
-        };
-        match read_from(&mut file, at, buf) {
-            Ok(n) => Ok(n),
+        let last = self.opened.take();
+        match read_named(self.rt, self.alloc, last, name, at, buf) {
+            Ok((opened, n)) => {
+                self.opened = Some(opened);
+                Ok(n)
+            }
             Err(error) => Err(read_fault(&mut self.faults, &mut self.misses, &error)),
         }
     }
 
     fn begin(&mut self, name: &str) -> Result<(), StoreFault> {
-        self.draft = None;
-        let part = part_name(self.alloc, name)?;
-        let name = String::from_str(self.alloc, name)?;
-        match fs::create(self.rt, part.as_str()) {
-            Ok(file) => {
-                self.draft = Some(Draft { name, part, file });
+        self.opened = None;
+        if let Some(left) = self.draft.take() {
+            draft::remove(self.rt, left);
+        }
+        match draft::begin(self.rt, self.alloc, name) {
+            Ok(draft) => {
+                self.draft = Some(draft);
                 Ok(())
             }
             Err(error) => Err(write_fault(&mut self.write_faults, &error)),
@@ -110,53 +112,26 @@ impl<'a, R: Files> Store for FileStore<'a, R> {
 
     fn append(&mut self, piece: &[u8]) -> Result<(), StoreFault> {
         let mut draft = self.draft.take().unwrap();
-        match draft.file.write_all(piece) {
+        match draft.append(piece) {
             Ok(()) => {
                 self.draft = Some(draft);
                 Ok(())
             }
             Err(error) => {
-                let _ = self.rt.remove_file(draft.part.as_str());
+                draft::remove(self.rt, draft);
                 Err(write_fault(&mut self.write_faults, &error))
             }
         }
     }
 
     fn commit(&mut self) -> Result<(), StoreFault> {
+        self.opened = None;
         let draft = self.draft.take().unwrap();
-        match self.rt.rename(draft.part.as_str(), draft.name.as_str()) {
+        match draft::commit(self.rt, draft) {
             Ok(()) => Ok(()),
-            Err(error) => {
-                let _ = self.rt.remove_file(draft.part.as_str());
-                Err(write_fault(&mut self.write_faults, &error))
-            }
+            Err(error) => Err(write_fault(&mut self.write_faults, &error)),
         }
     }
-}
-
-fn part_name(alloc: Global, name: &str) -> Result<String, AllocError> {
-    let mut part = String::from_str(alloc, name)?;
-    part.push_str(".part")?;
-    Ok(part)
-}
-
-/// Reads from byte `at` on until the buffer is full or the file ends. A file that can't seek, as a
-/// pipe, is read from its start.
-fn read_from<F: Read + Seek>(file: &mut F, at: u64, buf: &mut [u8]) -> io::Result<usize>
-    ensures { IfOk result (λ n. n ≤ length buf.old) }
-{
-    if at > 0 {
-        file.seek(SeekFrom::Start(at))?;
-    }
-    let mut n = 0;
-    'fill: while n < buf.len() {
-        let more = file.read(&mut buf[n..])?;
-        if more == 0 {
-            break;
-        }
-        n += more;
-    }
-    Ok(n)
 }
 
 /// The fault of a call that read, which it counts.

@@ -14,17 +14,18 @@ mod pieces;
 mod sink;
 mod std_sink;
 mod store;
+mod transfers;
 mod whole_files;
 
 pub use faults::{Damage, SinkFault, StoreFault};
 pub use file_store::FileStore;
 pub use mem_sink::MemSink;
 pub use mem_store::MemStore;
-pub use pieces::{put_five, put_four, put_six, put_three, put_two};
+pub use pieces::{put_four, put_three, put_two};
 pub use sink::Sink;
 pub use std_sink::StdSink;
 pub use store::Store;
-pub use whole_files::{read_file, read_front, read_piece, write_file};
+pub use whole_files::{read_front, read_piece, write_file};
 
 #[cfg(test)]
 mod tests;

@@ -1,4 +1,4 @@
-// A sink in memory. It tells its text, and a put whose number is noted fails.
+//! A sink in memory. It tells its text, and a put whose number is noted fails.
 ghost use Rattle.std.specs.Prelude.{◌≡◌, ◌↔◌, ◌++◌, [], ◌∷◌, Contains, OnOk, OnErr, IsErrOf};
 ghost use Rattle.outer_io.specs.Sink.{Puts};
 ghost use Rattle.outer_io.specs.Memory.{sink_state, AfterPut};
@@ -70,9 +70,9 @@ impl Sink for MemSink {
             self.faults = self.faults.saturating_add(1);
             return Err(SinkFault::Failed);
         }
-        match self.text.extend_from_slice(piece) {
-            Ok(()) => return Ok(()),
-            Err(_) => return Err(SinkFault::Memory),
-        }
+        let Ok(()) = self.text.extend_from_slice(piece) else {
+            return Err(SinkFault::Memory);
+        };
+        Ok(())
     }
 }

@@ -1,4 +1,4 @@
-// A store in memory. It tells all, and a call whose number is noted fails.
+//! A store in memory. It tells all, and a call whose number is noted fails.
 ghost use Rattle.std.specs.Prelude.{◌≡◌, ◌-◌, ◌≤◌, ◌↔◌, min, [], ◌∷◌, ◌++◌, length, take, drop, Contains, Some, None, IsSome, IfOk, OnOk, OnErr, IsErrOf};
 ghost use Rattle.std.specs.Option.{ForSome, option_copied};
 ghost use Rattle.std.specs.FinMap as map;

@@ -1,4 +1,4 @@
-// Several pieces put one after another.
+//! Several pieces put one after another.
 ghost use Rattle.std.specs.Prelude.{◌++◌};
 ghost use Rattle.outer_io.specs.Sink.{Puts};
 
@@ -43,43 +43,6 @@ pub fn put_four<O: Sink>(
 {
     match out.put(first) {
         Ok(()) => put_three(out, second, third, fourth),
-        Err(fault) => Err(fault),
-    }
-}
-
-/// Puts five pieces in order.
-pub fn put_five<O: Sink>(
-    out: &mut O,
-    first: &[u8],
-    second: &[u8],
-    third: &[u8],
-    fourth: &[u8],
-    fifth: &[u8],
-) -> Result<(), SinkFault>
-    ensures { Puts (O.state out.old) (O.state out.new)
-        (first.now ++ (second.now ++ (third.now ++ (fourth.now ++ fifth.now)))) result }
-{
-    match out.put(first) {
-        Ok(()) => put_four(out, second, third, fourth, fifth),
-        Err(fault) => Err(fault),
-    }
-}
-
-/// Puts six pieces in order.
-pub fn put_six<O: Sink>(
-    out: &mut O,
-    first: &[u8],
-    second: &[u8],
-    third: &[u8],
-    fourth: &[u8],
-    fifth: &[u8],
-    sixth: &[u8],
-) -> Result<(), SinkFault>
-    ensures { Puts (O.state out.old) (O.state out.new)
-        (first.now ++ (second.now ++ (third.now ++ (fourth.now ++ (fifth.now ++ sixth.now))))) result }
-{
-    match out.put(first) {
-        Ok(()) => put_five(out, second, third, fourth, fifth, sixth),
         Err(fault) => Err(fault),
     }
 }

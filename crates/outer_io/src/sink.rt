@@ -1,4 +1,4 @@
-// A sink of text, as a command sees it.
+//! A sink of text, as a command sees it.
 ghost use Rattle.outer_io.specs.Sink.{SinkState, Puts};
 
 use crate::SinkFault;

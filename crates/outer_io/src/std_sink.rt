@@ -1,8 +1,10 @@
-// The sink of the standard output. It tells nothing of what was put.
+//! The sink of the standard output. It tells nothing of what was put.
 ghost use Rattle.std.specs.Prelude.{◌≡◌};
 ghost use Rattle.outer_io.specs.Real.{untold_sink};
 
+use crate::transfers::put_whole;
 use crate::{Sink, SinkFault};
+use std::io;
 use std::io::ErrorKind;
 use std::marker::Model;
 
@@ -35,15 +37,15 @@ impl<'a, R: Print> Sink for StdSink<'a, R> {
     ghost state = { λ s. s };
 
     fn put(&mut self, piece: &[u8]) -> Result<(), SinkFault> {
-        match self.rt.write_all(piece) {
-            Ok(()) => return Ok(()),
-            Err(error) => {
-                if error.kind() == ErrorKind::OutOfMemory {
-                    return Err(SinkFault::Memory);
+        match put_whole(&mut io::writer(self.rt), piece) {
+            Ok(()) => Ok(()),
+            Err(error) => match error.kind() {
+                ErrorKind::OutOfMemory => Err(SinkFault::Memory),
+                _ => {
+                    self.faults = self.faults.saturating_add(1);
+                    Err(SinkFault::Failed)
                 }
-                self.faults = self.faults.saturating_add(1);
-                return Err(SinkFault::Failed);
-            }
+            },
         }
     }
 }

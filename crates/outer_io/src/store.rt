@@ -1,4 +1,4 @@
-// A store of named files, as a command sees it.
+//! A store of named files, as a command sees it.
 ghost use Rattle.std.specs.Prelude.{◌≡◌, ◌-◌, ◌≤◌, min, [], ◌++◌, length, take, drop, Some, None, IsSome, IfOk, OnOk, OnErr};
 ghost use Rattle.std.specs.Option.{ForSome};
 ghost use Rattle.outer_io.specs.Store.{StoreState, OnlyReads, ReadCause, ReadTold, OnlyWrites, committed, IsBytes};

@@ -1,4 +1,4 @@
-// Files read and written whole, over any store.
+//! Files read and written whole, over any store.
 ghost use Rattle.std.specs.Prelude.{◌≡◌, ◌≤◌, length, take, Some, None, IfOk, OnOk, OnErr};
 ghost use Rattle.std.specs.Option.{ForSome};
 ghost use Rattle.outer_io.specs.Store.{file, contents, with_file, IsBytes, OnlyReads, ReadCause, ReadTold, OnlyWrites, Piece};
@@ -7,19 +7,7 @@ use crate::{Store, StoreFault};
 use std::alloc::Global;
 
 /// How many bytes are read at a time.
-const PIECE: usize = 4096;
-
-/// The bytes of a file, up to the length that the store answers. A read that gives no byte before
-/// that ends them there.
-pub fn read_file<S: Store>(alloc: Global, store: &mut S, name: &str) -> Result<Vec<u8>, StoreFault>
-    ensures keeps { OnlyReads (S.state store.old) (S.state store.new) }
-    ensures cause { ReadCause (S.state store.old) (S.state store.new) result }
-    ensures told { ForSome (S.state store.old).files (λ files.
-        ReadTold files name.now result (λ bytes v. (v.items ≡ bytes) × IsBytes bytes)) }
-{
-    let size = store.size(name)?;
-    read_first(alloc, store, name, size)
-}
+const PIECE: usize = 65536;
 
 /// The first `limit` bytes of a file, or all where it has fewer: a text that is known to be too
 /// long need not be read to its end.
@@ -33,6 +21,7 @@ pub fn read_front<S: Store>(
     ensures cause { ReadCause (S.state store.old) (S.state store.new) result }
     ensures told { ForSome (S.state store.old).files (λ files.
         ReadTold files name.now result (λ bytes v. (v.items ≡ take limit bytes) × IsBytes bytes)) }
+    ensures bound { IfOk result (λ v. length v.items ≤ limit) }
 {
     let size = store.size(name)?;
     read_first(alloc, store, name, size.min(limit))
@@ -53,6 +42,7 @@ fn read_first<S: Store>(
     ensures cause { ReadCause (S.state store.old) (S.state store.new) result }
     ensures told { ForSome (S.state store.old).files (λ files.
         ReadTold files name.now result (λ bytes v. v.items ≡ take count bytes)) }
+    ensures bound { IfOk result (λ v. length v.items ≤ count) }
 {
     let mut front = Vec::new(alloc);
     let mut piece = [0u8; PIECE];

@@ -1,4 +1,4 @@
-// The files that a store in memory holds.
+//! The files that a store in memory holds.
 ghost use Rattle.std.specs.Prelude.{◌≡◌, ◌+◌, ◌-◌, ◌<◌, ◌≤◌, None, IfSome, IfNone, min, ◌++◌, length, take, drop, vec_capacity};
 ghost use Rattle.std.specs.Option.{option_copied};
 ghost use Rattle.std.specs.FinMap as map;

@@ -1,8 +1,0 @@
-use Rattle.outer_io.proofs.Sinking.{Puts_stop, Puts_then}
-use Rattle.outer_io.proofs.pieces.put_five.Goals as goal
-
-pub returns-in-Err : goal.returns-in-Err
-returns-in-Err g c = Puts_stop _ _ _ _ _ c.in-Err.ensures
-
-pub returns-in-Ok : goal.returns-in-Ok
-returns-in-Ok g c = Puts_then _ _ _ _ _ _ _ c.in-Ok.ensures c.put_four.ensures
