@@ -21,7 +21,7 @@ mod rows;
 
 ghost use Rattle.std.specs.Prelude.{◌≡◌, ◌+◌, ◌*◌, ◌≤◌, length, IfOk};
 ghost use Rattle.set_table.specs.Sets.{aux_of, degree_of};
-ghost use Rattle.bfv_linear.specs.Ciphers.{IsCipherOf};
+ghost use Rattle.bfv_params.specs.Ciphers.{IsCipherOf};
 
 use crate::rows::{fill, report};
 use bfv_linear::{add, mul_plain};
@@ -121,7 +121,7 @@ abbrev pub invariant-loop-i : goal.invariant-loop-i
 invariant-loop-i g l = record { set : l.cipher.set ≡ l.ctx.set; level : l.cipher.level ≡ l.ctx.level; parts : l.cipher.parts ≡ 2 }
 ANTT
 proof time_add/Invariants.antt <<'ANTT'
-use Rattle.bfv_linear.specs.Ciphers.{IsCipherOf}
+use Rattle.bfv_params.specs.Ciphers.{IsCipherOf}
 use Rattle.linear_bench.proofs.time_add.Given as goal
 
 abbrev pub invariant-turns : goal.invariant-turns
@@ -129,7 +129,7 @@ invariant-turns g l = IsCipherOf l.ctx l.out
 ANTT
 proof time_mul_plain/Invariants.antt <<'ANTT'
 use Rattle.std.proofs.Common.{◌≡◌, length}
-use Rattle.bfv_linear.specs.Ciphers.{IsCipherOf}
+use Rattle.bfv_params.specs.Ciphers.{IsCipherOf}
 use Rattle.linear_bench.proofs.time_mul_plain.Given as goal
 
 abbrev pub invariant-turns : goal.invariant-turns

@@ -1,7 +1,5 @@
 mod Coprimality
 mod RoundedWords
-mod TransformedRows
-mod CipherParts
 mod Splits
 mod PhaseRows
 mod ScaledPhase

@@ -5,7 +5,7 @@ ghost use Rattle.set_table.specs.Sets.{plain_of, gamma};
 ghost use Rattle.ring_law.specs.Rows.{IsReduced, Represents, listed_polynomial};
 ghost use Rattle.rns_poly.specs.Rows.{AreReduced};
 ghost use Rattle.fast_conv.specs.Converters.{AreFastConversions};
-ghost use Rattle.bfv_model.specs.Holds.{CipherHolds, listed_word};
+ghost use Rattle.bfv_params.specs.Ciphers.{HoldsIn, IsCipherOf};
 ghost use Rattle.bfv_params.specs.Contexts.{data_in, modulus_in, scratch_rows_in};
 
 use crate::phases::phase_into;
@@ -32,14 +32,11 @@ pub fn decrypt<const N: usize>(
     scratch: &mut PolyBuf<N>,
 )
     requires secret_set { (secret.now).set ≡ (ctx.now).set }
-    requires cipher_set { (cipher.now).set ≡ (ctx.now).set }
-    requires level { (cipher.now).level ≡ (ctx.now).level }
+    requires cipher_of { IsCipherOf (ctx.now) (cipher.now) }
     requires room { scratch_rows_in (ctx.now) ≤ length scratch.old }
     ensures reduced { IsReduced N (plain_of (ctx.now).set) row.new }
     ensures plain { (m : ℕ → ℕ) (W : ℕ) →
-        CipherHolds N (data_in (ctx.now)) (plain_of (ctx.now).set)
-        (listed_word (ctx.now).level (cipher.now).rows) (listed_polynomial (secret.now).small) m W →
-        4 * W ≤ modulus_in (ctx.now) →
+        HoldsIn N (ctx.now) (cipher.now) (listed_polynomial (secret.now).small) m W → 4 * W ≤ modulus_in (ctx.now) →
         (k : ℕ) → k < N → slice_index row.new k ≡ m k }
     ensures scratch { length scratch.new ≡ length scratch.old }
 {
@@ -55,17 +52,13 @@ fn decrypt_in_rows<const N: usize>(
     rows: ViewMut<'_, N>,
 )
     requires secret_set { (secret.now).set ≡ (ctx.now).set }
-    requires cipher_set { (cipher.now).set ≡ (ctx.now).set }
-    requires level { (cipher.now).level ≡ (ctx.now).level }
+    requires cipher_of { IsCipherOf (ctx.now) (cipher.now) }
     requires room { 5 * (ctx.now).level + 2 ≤ length rows.old }
     ensures reduced { IsReduced N (plain_of (ctx.now).set) row.new }
     ensures plain { (m : ℕ → ℕ) (W : ℕ) →
-        CipherHolds N (data_in (ctx.now)) (plain_of (ctx.now).set)
-        (listed_word (ctx.now).level (cipher.now).rows) (listed_polynomial (secret.now).small) m W →
-        4 * W ≤ modulus_in (ctx.now) →
+        HoldsIn N (ctx.now) (cipher.now) (listed_polynomial (secret.now).small) m W → 4 * W ≤ modulus_in (ctx.now) →
         (k : ℕ) → k < N → slice_index row.new k ≡ m k }
 {
-    let _set = ctx.set();
     let level = ctx.data_moduli().len();
     let (phase, rest) = split(rows, level);
     let (scratch, rest) = split(rest, 4 * level);
@@ -85,21 +78,6 @@ fn convert_phase<const N: usize>(ctx: &Context<N>, phase: ViewMut<'_, N>, out: V
         (λ k. pos gamma *ℤ (pos (plain_of (ctx.now).set) *ℤ x k)) y
         × Represents N (plain_of (ctx.now).set ∷ gamma ∷ []) out.new y }
 {
-    let _set = ctx.set();
-    let _moduli = ctx.data_moduli();
-    scale_phase(ctx, &mut *phase);
-    ctx.plain_conv().convert(phase, out);
-}
-
-/// Multiplies a phase by t and gamma.
-fn scale_phase<const N: usize>(ctx: &Context<N>, rows: ViewMut<'_, N>)
-    requires count { length rows.old ≡ (ctx.now).level }
-    requires reduced { AreReduced N (data_in (ctx.now)) rows.old }
-    ensures { (x : ℕ → ℤ) → Represents N (data_in (ctx.now)) rows.old x →
-        Represents N (data_in (ctx.now)) rows.new
-        (λ k. pos gamma *ℤ (pos (plain_of (ctx.now).set) *ℤ x k)) }
-{
-    let _set = ctx.set();
     let moduli = ctx.data_moduli();
     let count = ctx.data_base().len();
     let mut factors = [0; MOST_MODULI];
@@ -109,7 +87,8 @@ fn scale_phase<const N: usize>(ctx: &Context<N>, rows: ViewMut<'_, N>)
         ctx.gamma().value(),
         &mut factors,
     );
-    scale_each(moduli, &factors[..count], rows);
+    scale_each(moduli, &factors[..count], &mut *phase);
+    ctx.plain_conv().convert(phase, out);
 }
 
 /// Writes `gamma * t` modulo each of the moduli.

@@ -13,7 +13,9 @@ use Rattle.bfv_params.specs.Kept.{IsCipher}
 use Rattle.bfv_params.specs.Moduli.{data_at, key_at}
 use Rattle.bfv_params.specs.Rows.{ReducedInTurn}
 use Rattle.bfv_params.specs.Transforms.{transform_of}
-use Rattle.bfv_params.specs.Values.{CipherValue}
+use Rattle.bfv_params.specs.Ciphers.{IsCipherOf}
+use Rattle.bfv_params.specs.Contexts.{data_in}
+use Rattle.bfv_params.specs.Values.{CipherValue, ContextValue}
 use Rattle.bfv_params.proofs.Coprimality.{data_length, first_keys}
 
 -- row i of a part is row `from` + i of the whole
@@ -60,6 +62,24 @@ module _ (n : ℕ) (c : CipherValue) (kept : IsCipher n c.set c.room c.level c.p
   pub third_part_zero : c.parts ≡ 2 → (i k : ℕ) → i < c.level → k < n → listed_word c.level c.rows 2 i k ≡ 0
   third_part_zero two i k inside less =
       kept.rest (2 * c.level + i) k (subst (λ p. p * c.level ≤ 2 * c.level + i) (sym two) (omega arith)) (omega (arith, kept.size)) less
+
+-- ---- the same in a context of the cipher
+module _ (ctx : ContextValue) (c : CipherValue) (of : IsCipherOf ctx c) where
+  pub data_of_cipher : data_at c.set c.level ≡ data_in ctx
+  data_of_cipher = ap (λ set. data_at set c.level) of.set ∙ ap (data_at ctx.set) of.level
+
+  -- what the rows of part j represent
+  pub part_in_context : (n j : ℕ) (rows : List (List ℕ)) (x : ℕ → ℤ)
+      → ((y : ℕ → ℤ) → WordsRepresent n (data_at c.set c.level) (listed_word c.level c.rows j) y → Represents n (data_at c.set c.level) rows y)
+      → WordsRepresent n (data_in ctx) (listed_word ctx.level c.rows j) x → Represents n (data_in ctx) rows x
+  part_in_context n j rows x lent represents = subst (λ qs. Represents n qs rows x) data_of_cipher
+      (lent x (subst (λ qs. WordsRepresent n qs (listed_word c.level c.rows j) x) (sym data_of_cipher)
+      (subst (λ l. WordsRepresent n (data_in ctx) (listed_word l c.rows j) x) (sym of.level) represents)))
+
+  pub third_part_in_context : (n : ℕ) → IsCipher n c.set c.room c.level c.parts c.rows → c.parts ≡ 2 → (i k : ℕ) → i < length (data_in ctx) → k < n
+      → listed_word ctx.level c.rows 2 i k ≡ 0
+  third_part_in_context n kept two i k inside less = subst (λ l. listed_word l c.rows 2 i k ≡ 0) of.level
+      (third_part_zero n c kept two i k (subst (λ l. i < l) (ap length (sym data_of_cipher) ∙ level_length n c kept) inside) less)
 
 -- ---- the moduli of transforms
 -- the transforms modulo a set's moduli have these moduli
