@@ -4,10 +4,11 @@
 //! functions of these words, so a stream that is known, as that of a seed, determines all of them.
 #![tactic(auto)]
 
-ghost use Rattle.std.specs.Prelude.{◌≡◌, ◌*◌, ◌<◌, ◌≤◌};
+ghost use Rattle.std.specs.Prelude.{◌≡◌, ℕ, ◌+◌, ◌*◌, ◌<◌, ◌≤◌, [], length, slice_index, slice_index_or};
 ghost use Rattle.bfv_model.specs.Drawn.{drawn_key_id, drawn_ternary, error_sample, stream_word, ternary_sample, uniform_at, uniform_sample};
 ghost use Rattle.bfv_model.specs.Holds.{ternary_coefficient};
 ghost use Rattle.rand_words.specs.Words.{after_words};
+ghost use Rattle.ring_law.specs.Rows.{IsReduced, word_at};
 ghost use Rattle.ring_law.specs.Sums.{values_below};
 
 #[cfg(test)]
@@ -87,11 +88,27 @@ pub fn error_row<const N: usize, R: Rng>(rng: &mut R, out: &mut [i8; N])
 pub fn uniform_row<const N: usize, R: Rng>(rng: &mut R, m: &Modulus, out: &mut [u64; N])
     requires { N ≤ 32768 }
     ensures samples { out.new ≡ values_below N (λ k. uniform_at (stream_word (R.stream rng.old)) m.now (2 * k)) }
+    ensures reduced { IsReduced N m.now out.new }
     ensures rest { R.stream rng.new ≡ after_words (2 * N) (R.stream rng.old) }
 {
     for sample in out.iter_mut() {
         let high = rng.next_u64();
         let low = rng.next_u64();
         *sample = uniform(m, high, low);
+    }
+}
+
+/// Fills a row for each modulus with uniform residues, row after row: two words for each residue, in
+/// the order of the coefficients.
+pub fn uniform_rows<const N: usize, R: Rng>(rng: &mut R, moduli: &[Modulus], rows: &mut [[u64; N]])
+    requires degree { N ≤ 32768 }
+    requires length { length rows.old ≡ length moduli.now }
+    ensures samples { (i k : ℕ) → i < length moduli.now → k < N →
+        word_at rows.new i k ≡ uniform_at (stream_word (R.stream rng.old)) (slice_index moduli.now i) (2 * (i * N + k)) }
+    ensures reduced { (i : ℕ) → i < length moduli.now → IsReduced N (slice_index moduli.now i) (slice_index_or rows.new i []) }
+    ensures rest { R.stream rng.new ≡ after_words (2 * N * length moduli.now) (R.stream rng.old) }
+{
+    for i in 0..moduli.len() {
+        uniform_row(rng, &moduli[i], &mut rows[i]);
     }
 }
