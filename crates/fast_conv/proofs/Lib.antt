@@ -6,5 +6,6 @@ pub mod Words
 pub mod Columns
 pub mod LiftedRows
 pub mod FlooredRows
+pub mod ScaledQuotients
 pub mod ExactRows
 pub mod DroppedRows
