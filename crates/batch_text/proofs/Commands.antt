@@ -1,7 +1,7 @@
 -- What is known of the commands of a text.
 use Rattle.std.proofs.Common.{◌≡◌, ℕ, zero, suc, List, [], ◌∷◌, Bool, true, false, not, cond, map, refl, ap, sym, ◌∙◌}
 use Rattle.std.specs.Prelude.{Option, Some, None, Ok, Err, slice_get, if◌then◌else◌}
-use Rattle.script_text.specs.Grammar.{Line, counted_lines}
+use Rattle.line_text.specs.Lines.{Line, counted_lines}
 use Rattle.script_text.specs.declared.faults.ScriptPlace.TheVariants.{TooLong}
 use Rattle.batch_text.specs.Commands.{is_command, is_too_long, first_bad, commands_unless, commands_of}
 

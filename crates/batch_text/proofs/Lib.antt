@@ -1,4 +1,3 @@
 pub mod Plain
-pub mod Lines
 pub mod ReadLines
 pub mod Commands

@@ -1,11 +1,11 @@
--- One line of the loop over the lines of a text.
-use Rattle.std.proofs.Common.{◌≡◌, ◌<◌, ℕ, ◌+◌, List, [], ◌∷◌, ◌++◌, length, drop, get_or, Bool, true, false, not, cond, Option, Some, None, Result, Ok, Err, refl, ap, sym, ◌∙◌, arith, append-nil, append_assoc}
-use Rattle.std.proofs.lemmas.List.{drop_more, drop_all}
+-- The commands of lines that are read in stretches.
+use Rattle.std.proofs.Common.{◌≡◌, ◌<◌, ℕ, List, [], ◌∷◌, ◌++◌, length, drop, get_or, Bool, true, false, not, cond, Option, Some, None, Result, Ok, Err, refl, ap, sym, ◌∙◌, append-nil, append_assoc}
 use Rattle.script_text.specs.declared.faults.ScriptPlace.{ScriptPlace}
 use Rattle.script_text.specs.declared.faults.ScriptFault.{ScriptFault}
 use Rattle.script_text.specs.declared.faults.ScriptFault.TheVariants as fault
 use Rattle.script_text.specs.Drafts.{Fails}
-use Rattle.script_text.specs.Grammar.{Line, words_of, is_passed_over, counted_from, followed}
+use Rattle.line_text.specs.Lines.{Line, counted_from}
+use Rattle.line_text.proofs.Turns.{ReadsOn, followed, line_refused}
 use Rattle.batch_text.specs.Commands.{is_command, commands_unless, first_bad}
 use Rattle.batch_text.specs.Reading.{commands_in, behind}
 
@@ -37,42 +37,30 @@ followed-behind : (seen : Commands) (first next : Result Commands ScriptPlace) �
 followed-behind seen (Ok first) next = behind-behind seen first next
 followed-behind seen (Err place) next = refl
 
--- a line that may be passed over, and then the others
-pieces-cons : (seen : Commands) (at : ℕ) (piece : List ℕ) (pieces : List (List ℕ))
-    → behind seen (commands_in (counted_from at (piece ∷ pieces)))
-    ≡ followed (behind seen (commands_in (counted_from at (piece ∷ [])))) (λ next. behind next (commands_in (counted_from (at + 1) pieces)))
-pieces-cons seen at piece pieces = by (is_passed_over (words_of piece)) (record { number = at; words = words_of piece }) (counted_from (at + 1) pieces)
+-- commands, and behind them those of lines
+abbrev pub commands_on : Commands → List Line → Result Commands ScriptPlace
+commands_on seen lines = behind seen (commands_in lines)
+
+-- one line, and then the others
+commands_on-cons : (seen : Commands) (line : Line) (lines : List Line) → commands_on seen (line ∷ lines) ≡ followed (commands_on seen (line ∷ [])) (λ next. commands_on next lines)
+commands_on-cons seen line lines = ap (behind seen) (commands_in-cons line lines) ∙ followed-behind seen (commands_in (line ∷ [])) (commands_in lines)
+
+commands_on-append : (seen : Commands) (lines others : List Line) → commands_on seen (lines ++ others) ≡ followed (commands_on seen lines) (λ next. commands_on next others)
+commands_on-append seen [] others = ap (λ (s : Commands). commands_on s others) (sym (append-nil seen))
+commands_on-append seen (line ∷ lines) others =
+    commands_on-cons seen line (lines ++ others) ∙ by (λ next. commands_on-append next lines others) (commands_on seen (line ∷ []))
+    ∙ ap (λ (r : Result Commands ScriptPlace). followed r (λ next. commands_on next others)) (sym (commands_on-cons seen line lines))
   where
-    by : (over : Bool) (line : Line) (rest : List Line) → behind seen (commands_in (cond (not over) (line ∷ rest) rest))
-        ≡ followed (behind seen (commands_in (cond (not over) (line ∷ []) []))) (λ next. behind next (commands_in rest))
-    by true line rest = ap (λ (s : Commands). behind s (commands_in rest)) (sym (append-nil seen))
-    by false line rest = ap (behind seen) (commands_in-cons line rest) ∙ followed-behind seen (commands_in (line ∷ [])) (commands_in rest)
+    by : ((next : Commands) → commands_on next (lines ++ others) ≡ followed (commands_on next lines) (λ next. commands_on next others)) → (r : Result Commands ScriptPlace)
+        → followed r (λ next. commands_on next (lines ++ others)) ≡ followed (followed r (λ next. commands_on next lines)) (λ next. commands_on next others)
+    by more (Ok next) = more next
+    by more (Err place) = refl
 
--- what the lines from one on give, by what that one gives
-line_turn : (seen : Commands) (at i : ℕ) (line : List ℕ) (pieces : List (List ℕ)) → (i < length pieces) × (line ≡ get_or pieces i line)
-    → behind seen (commands_in (counted_from at (drop i pieces)))
-    ≡ followed (behind seen (commands_in (counted_from at (line ∷ [])))) (λ next. behind next (commands_in (counted_from (at + 1) (drop (i + 1) pieces))))
-line_turn seen at i line pieces turn =
-    ap (λ (ps : List (List ℕ)). behind seen (commands_in (counted_from at ps))) (drop_more pieces i line turn.0 ∙ ap (λ (l : List ℕ). l ∷ drop (i + 1) pieces) (sym turn.1))
-    ∙ pieces-cons seen at line (drop (i + 1) pieces)
-
--- a line without fault
-pub line_taken : (all : Result Commands ScriptPlace) (seen next : Commands) (at i : ℕ) (line : List ℕ) (pieces : List (List ℕ)) → (i < length pieces) × (line ≡ get_or pieces i line)
-    → all ≡ behind seen (commands_in (counted_from at (drop i pieces))) → behind seen (commands_in (counted_from at (line ∷ []))) ≡ Ok next
-    → all ≡ behind next (commands_in (counted_from (at + 1) (drop (i + 1) pieces)))
-line_taken all seen next at i line pieces turn so_far taken =
-    so_far ∙ line_turn seen at i line pieces turn
-    ∙ ap (λ (r : Result Commands ScriptPlace). followed r (λ next. behind next (commands_in (counted_from (at + 1) (drop (i + 1) pieces))))) taken
+pub reads_on : ReadsOn commands_on
+reads_on = record { none = λ seen. ap Ok (append-nil seen); append = commands_on-append }
 
 -- a line that failed
 pub line_failed : (e : ScriptFault) (all : Result Commands ScriptPlace) (seen : Commands) (at i : ℕ) (line : List ℕ) (pieces : List (List ℕ)) → (i < length pieces) × (line ≡ get_or pieces i line)
-    → all ≡ behind seen (commands_in (counted_from at (drop i pieces))) → Fails e (behind seen (commands_in (counted_from at (line ∷ [])))) → Fails e all
-line_failed fault.Memory all seen at i line pieces turn so_far failed = tt
-line_failed (fault.Bad place) all seen at i line pieces turn so_far failed =
-    so_far ∙ line_turn seen at i line pieces turn
-    ∙ ap (λ (r : Result Commands ScriptPlace). followed r (λ next. behind next (commands_in (counted_from (at + 1) (drop (i + 1) pieces))))) failed
-
--- no line is left
-pub lines_end : (seen : Commands) (at i : ℕ) (pieces : List (List ℕ)) → length pieces ≡ i → behind seen (commands_in (counted_from at (drop i pieces))) ≡ Ok seen
-lines_end seen at i pieces all =
-    ap (λ (ps : List (List ℕ)). behind seen (commands_in (counted_from at ps))) (drop_all i pieces (omega arith)) ∙ ap Ok (append-nil seen)
+    → all ≡ commands_on seen (counted_from at (drop i pieces)) → Fails e (commands_on seen (counted_from at (line ∷ []))) → Fails e all
+line_failed fault.Memory all seen at i line pieces turn before failed = tt
+line_failed (fault.Bad place) all seen at i line pieces turn before failed = line_refused commands_on reads_on all seen place at i line pieces turn before failed

@@ -2,7 +2,8 @@
 use Rattle.std.specs.Prelude.{ℕ, Bool, false, ◌||◌, ◌&&◌, not, nat_lt, nat_le, List, [], ◌∷◌, length, map, Option, Some, None, Result, Ok, Err, codes}
 use Rattle.std.specs.List.{list_all, find}
 use Rattle.std.specs.Str.{bytes_eq}
-use Rattle.script_text.specs.Grammar.{Line, counted_lines, demand}
+use Rattle.line_text.specs.Lines.{Line, counted_lines}
+use Rattle.script_text.specs.Grammar.{demand}
 use Rattle.script_text.specs.declared.faults.ScriptPlace.{ScriptPlace}
 use Rattle.script_text.specs.declared.faults.ScriptPlace.TheVariants.{Syntax, TooLong}
 

@@ -1,14 +1,15 @@
 // Reading the commands of a batch.
 ghost use Rattle.std.specs.Prelude.{◌≡◌, ◌≤◌, ◌∷◌, [], length, IfOk, Ok, Err};
 ghost use Rattle.script_text.specs.Drafts.{Gives};
-ghost use Rattle.script_text.specs.Grammar.{counted_from, counted_lines};
+ghost use Rattle.line_text.specs.Lines.{counted_from, counted_lines};
 ghost use Rattle.script_text.specs.declared.faults.ScriptPlace.{ScriptPlace};
 ghost use Rattle.script_text.specs.declared.faults.ScriptFault.TheVariants as fault;
 ghost use Rattle.batch_text.specs.Commands.{is_too_long, commands_of};
 ghost use Rattle.batch_text.specs.Reading.{texts, commands_in, behind};
 
 use crate::words::{is_command, words_of};
-use script_text::{ScriptFault, ScriptPlace, is_passed_over};
+use line_text::is_passed_over;
+use script_text::{ScriptFault, ScriptPlace};
 use std::alloc::Global;
 
 const MOST_BYTES: usize = 1_048_576;

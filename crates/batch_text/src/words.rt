@@ -2,16 +2,11 @@
 ghost use Rattle.std.specs.Prelude.{◌≡◌, ◌&&◌, not, true, [], map, IfOk, IsTrue};
 ghost use Rattle.std.specs.List.{list_all};
 ghost use Rattle.std.specs.String.{string_bytes};
-ghost use Rattle.script_text.specs.Grammar.{is_blank_in_line, words_of};
+ghost use Rattle.line_text.specs.Lines.{words_of};
 ghost use Rattle.batch_text.specs.Commands.{is_word_byte, are_plain, begins_batch, is_command};
 
+use line_text::{is_blank_in_line, word};
 use std::alloc::{AllocError, Global};
-
-fn is_blank(byte: u8) -> bool
-    ensures { result ≡ is_blank_in_line byte }
-{
-    matches!(byte, b' ' | b'\t' | b'\r')
-}
 
 /// Whether all bytes of a word are from 0x21 to 0x7e.
 fn is_plain(word: &[u8]) -> bool
@@ -24,7 +19,7 @@ fn is_plain(word: &[u8]) -> bool
 fn are_plain(line: &[u8]) -> bool
     ensures { result ≡ are_plain (words_of line.now) }
 {
-    line.split(|byte| is_blank(*byte))
+    line.split(|byte| is_blank_in_line(*byte))
         .filter(|word| !word.is_empty())
         .all(is_plain)
 }
@@ -33,11 +28,7 @@ fn are_plain(line: &[u8]) -> bool
 fn begins_batch(line: &[u8]) -> bool
     ensures { result ≡ begins_batch (words_of line.now) }
 {
-    let first = line
-        .split(|byte| is_blank(*byte))
-        .find(|word| !word.is_empty())
-        .unwrap_or(&[]);
-    first == b"batch".as_slice()
+    word(line, 0) == b"batch".as_slice()
 }
 
 /// Whether the words of a line may be one of the commands of a batch.
@@ -54,7 +45,7 @@ pub fn words_of(alloc: Global, line: &[u8]) -> Result<Vec<String>, AllocError>
 {
     let mut words = Vec::new(alloc);
     'words: for word in line
-        .split(|byte| is_blank(*byte))
+        .split(|byte| is_blank_in_line(*byte))
         .filter(|word| !word.is_empty())
     {
         words.push(string_of(alloc, word)?)?;

@@ -2,8 +2,8 @@
 use Rattle.std.specs.Prelude.{◌≡◌, ◌⊎◌, ℕ, ◌<◌, ◌≤◌, Bool, false, ◌&&◌, nat_lt, nat_le, List, [], ◌∷◌, Option, Some, None, is_some, length, ◌==◌, codes, if◌then◌else◌}
 use Rattle.std.specs.Str.{bytes_eq}
 use Rattle.std.specs.List.{list_any, list_all, before_first, after_first}
+use Rattle.line_text.specs.Names.{is_name}
 use Rattle.set_table.specs.Sets.{set_named}
-use Rattle.script_text.specs.Names.{is_name}
 use Rattle.command_words.specs.declared.form.Form.{Form}
 use Rattle.command_words.specs.declared.form.Form.TheVariants.{Secret, Public, Encrypt, Run, Decrypt, Check, Batch}
 

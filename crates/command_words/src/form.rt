@@ -5,7 +5,7 @@ ghost use Rattle.std.specs.String.{string_bytes};
 ghost use Rattle.set_table.specs.Sets.{set_named};
 ghost use Rattle.command_words.specs.Form as form;
 
-use script_text::is_name;
+use line_text::is_name;
 use set_table::SetName;
 
 /// What the words of a command line ask for. Words are counted from 0, the command's name.

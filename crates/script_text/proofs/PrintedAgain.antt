@@ -6,7 +6,8 @@ use Rattle.std.proofs.lemmas.Bool.{le-ltb}
 use Rattle.script_text.specs.declared.faults.ScriptPlace.{ScriptPlace}
 use Rattle.script_text.specs.declared.faults.ScriptPlace.TheVariants.{TooLong}
 use Rattle.script_text.specs.Scripts.{Script, IsSound}
-use Rattle.script_text.specs.Grammar.{Line, Draft, after_lines, counted_lines, demand, finished, followed, is_input_line, is_step_line, is_too_long, lines_of, script_of}
+use Rattle.line_text.specs.Lines.{Line, counted_lines, lines_of}
+use Rattle.script_text.specs.Grammar.{Draft, after_lines, demand, finished, followed, is_input_line, is_step_line, is_too_long, script_of}
 use Rattle.script_text.specs.Printed.{printed_script, renumbered}
 use Rattle.script_text.proofs.PrintedScripts.{script_lines, numbered_words}
 use Rattle.script_text.proofs.PrintedLines.{counted_printed}

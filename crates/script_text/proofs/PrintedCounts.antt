@@ -8,9 +8,10 @@ use Rattle.std.proofs.lemmas.List.Sums.{count_by-le-length, sum_by-append, sum_b
 use Rattle.set_table.specs.declared.SetName.{SetName}
 use Rattle.set_table.specs.declared.SetName.TheVariants.{One16, Toy16, S4096, S8192, S16384}
 use Rattle.set_table.specs.Sets.{name_of}
-use Rattle.script_text.specs.Names.{is_name}
+use Rattle.line_text.specs.Names.{is_name}
 use Rattle.script_text.specs.Scripts.{Script, IsSound}
-use Rattle.script_text.specs.Grammar.{Line, is_input_line, is_step_line}
+use Rattle.line_text.specs.Lines.{Line}
+use Rattle.script_text.specs.Grammar.{is_input_line, is_step_line}
 use Rattle.script_text.specs.Printed.{register_names, plain_names}
 use Rattle.script_text.proofs.PrintedScripts.{input_words, step_words, script_lines, numbered_words}
 use Rattle.script_text.proofs.PrintedSizes.{sound_names, name_differs, length-register_names}

@@ -20,11 +20,10 @@ use Rattle.script_text.specs.declared.script.Op.{Op}
 use Rattle.script_text.specs.declared.script.Op.TheVariants.{Add, Sub, Neg, AddPlain, SubPlain, MulPlain, MulConst, Mul, Relin, Turn, Swap}
 use Rattle.script_text.specs.declared.script.Input.{Input}
 use Rattle.script_text.specs.declared.script.Step.{Step}
-use Rattle.script_text.specs.Reading.{written_number}
-use Rattle.script_text.specs.Names.{is_name, is_number}
+use Rattle.line_text.specs.Names.{written_number, is_name, is_number, is_number_in}
 use Rattle.script_text.specs.Keywords.{keyword_text, second_of, operation}
 use Rattle.script_text.specs.Scripts.{Script, IsSound, cipher_inputs, plain_inputs, names_of, parts_of, parts_made, AllFit, Fits}
-use Rattle.script_text.specs.Grammar.{Draft, register_named, plain_named, is_new, set_line, input_line, output_line, short_line, is_number_in, takes_one, is_second, second_value, has_shape, with_step, short_step, long_step, keyword_after, next_line, after_line, after_lines}
+use Rattle.script_text.specs.Grammar.{Draft, register_named, plain_named, is_new, set_line, input_line, output_line, short_line, takes_one, is_second, second_value, has_shape, with_step, short_step, long_step, keyword_after, next_line, after_line, after_lines}
 use Rattle.script_text.specs.Printed.{kind_text, keyword_of, first_operand, second_words, register_names, plain_names, inputs_from, steps_from, renumbered}
 use Rattle.script_text.proofs.Registers.{length-parts_of}
 use Rattle.script_text.proofs.SecondOperand.{plain_small, degree_small}

@@ -8,9 +8,9 @@ use Rattle.std.proofs.lemmas.List.{append-nil, length-map}
 use Rattle.std.proofs.lemmas.List.Elements.{All-nil, All-cons, All-head, All-tail, All-append, All-map, All-from_get_or}
 use Rattle.std.proofs.lemmas.List.Splits.{slice_split_none, slice_split_at}
 use Rattle.std.proofs.lemmas.List.Sums.{AllPass-from_list_all}
-use Rattle.script_text.specs.Grammar.{Line, is_blank_in_line, is_passed_over, words_of, without_end, lines_of, counted_from, counted_lines}
+use Rattle.line_text.specs.Lines.{Line, is_blank_in_line, is_passed_over, words_of, without_end, lines_of, counted_from, counted_lines}
 use Rattle.script_text.specs.Printed.{printed_line}
-use Rattle.script_text.proofs.Lines.{lines_of-split}
+use Rattle.line_text.proofs.Pieces.{lines_of-split}
 use Rattle.script_text.proofs.PrintedScripts.{IsWord, IsPlainLine, numbered_words}
 
 -- ---- pieces joined by a byte that none of them has

@@ -7,8 +7,7 @@ use Rattle.std.proofs.lemmas.Str.Parse.{IsNumeralModel, IsDigitsTest, FoldsDigit
 use Rattle.std.specs.Int.{IsInRange}
 use Rattle.std.specs.List.{list_all, fold}
 use Rattle.std.specs.Char.{is_ascii_digit}
-use Rattle.script_text.specs.Reading.{written_number}
-use Rattle.script_text.specs.Names.{is_number}
+use Rattle.line_text.specs.Names.{written_number, is_number}
 
 -- the number that digits write behind those of another
 abbrev number_after : ℕ → List ℕ → ℕ

@@ -6,7 +6,7 @@ use Rattle.script_text.specs.declared.script.Input.{Input}
 use Rattle.script_text.specs.declared.script.Step.{Step}
 use Rattle.script_text.specs.Scripts.{Script}
 use Rattle.script_text.specs.Keywords.{keyword_text}
-use Rattle.script_text.specs.Grammar.{Line, is_blank_in_line}
+use Rattle.line_text.specs.Lines.{Line, is_blank_in_line}
 use Rattle.script_text.specs.Printed.{kind_text, keyword_of, first_operand, second_words, register_names, plain_names}
 
 unfoldable pub input_words : Input → List (List ℕ)

@@ -22,10 +22,10 @@ use Rattle.script_text.specs.declared.script.Op.{Op}
 use Rattle.script_text.specs.declared.script.Op.TheVariants.{Add, Sub, Neg, AddPlain, SubPlain, MulPlain, MulConst, Mul, Relin, Turn, Swap}
 use Rattle.script_text.specs.declared.script.Input.{Input}
 use Rattle.script_text.specs.declared.script.Step.{Step}
-use Rattle.script_text.specs.Names.{is_name, is_name_byte}
+use Rattle.line_text.specs.Names.{is_name, is_name_byte}
 use Rattle.script_text.specs.Keywords.{keyword_text}
 use Rattle.script_text.specs.Scripts.{Script, IsSound, Fits, AllFit, parts_made, cipher_inputs, plain_inputs, is_cipher, is_plain}
-use Rattle.script_text.specs.Grammar.{is_blank_in_line}
+use Rattle.line_text.specs.Lines.{is_blank_in_line}
 use Rattle.script_text.specs.Printed.{printed_line, printed_input, printed_step, printed_script, kind_text, keyword_of, first_operand, second_words, register_names, plain_names}
 use Rattle.script_text.proofs.SecondOperand.{plain_small, degree_small}
 use Rattle.script_text.proofs.PrintedScripts.{input_words, step_words, script_lines, IsPlainLine}

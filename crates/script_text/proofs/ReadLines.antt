@@ -1,36 +1,28 @@
--- One line of the loop over the lines of a text.
-use Rattle.std.proofs.Common.{◌≡◌, ◌<◌, ℕ, ◌+◌, List, [], ◌∷◌, length, drop, get_or, Option, Result, Ok, ap, sym, ◌∙◌, arith}
-use Rattle.std.proofs.lemmas.List.{drop_more, drop_all}
+-- The drafts of lines that are read in stretches.
+use Rattle.std.proofs.Common.{◌≡◌, ◌<◌, ℕ, List, [], ◌∷◌, ◌++◌, length, drop, get_or, Option, Some, Result, Ok, Err, refl}
+use Rattle.line_text.specs.Lines.{Line, counted_from}
+use Rattle.line_text.proofs.Turns.{ReadsOn, followed, line_refused}
 use Rattle.script_text.specs.declared.faults.ScriptPlace.{ScriptPlace}
 use Rattle.script_text.specs.declared.faults.ScriptFault.{ScriptFault}
 use Rattle.script_text.specs.declared.faults.ScriptFault.TheVariants as fault
 use Rattle.script_text.specs.Drafts.{Fails}
-use Rattle.script_text.specs.Grammar.{Draft, counted_from, after_lines, followed}
-use Rattle.script_text.proofs.Lines.{after_lines-cons}
+use Rattle.script_text.specs.Grammar as grammar
+use Rattle.script_text.specs.Grammar.{Draft, after_line, after_lines}
 
--- what the lines from one on give, by what that one gives
-line_turn : (draft : Option Draft) (at i : ℕ) (line : List ℕ) (pieces : List (List ℕ)) → (i < length pieces) × (line ≡ get_or pieces i line)
-    → after_lines draft (counted_from at (drop i pieces)) ≡ followed (after_lines draft (counted_from at (line ∷ []))) (λ next. after_lines next (counted_from (at + 1) (drop (i + 1) pieces)))
-line_turn draft at i line pieces turn =
-    ap (λ (ps : List (List ℕ)). after_lines draft (counted_from at ps)) (drop_more pieces i line turn.0 ∙ ap (λ (l : List ℕ). l ∷ drop (i + 1) pieces) (sym turn.1))
-    ∙ after_lines-cons draft at line (drop (i + 1) pieces)
+after_lines-append : (draft : Option Draft) (lines others : List Line) → after_lines draft (lines ++ others) ≡ followed (after_lines draft lines) (λ next. after_lines next others)
+after_lines-append draft [] others = refl
+after_lines-append draft (line ∷ lines) others = by (λ next. after_lines-append (Some next) lines others) (after_line draft line)
+  where
+    by : ((next : Draft) → after_lines (Some next) (lines ++ others) ≡ followed (after_lines (Some next) lines) (λ next. after_lines next others)) → (r : Result Draft ScriptPlace)
+        → grammar.followed r (λ next. after_lines (Some next) (lines ++ others)) ≡ followed (grammar.followed r (λ next. after_lines (Some next) lines)) (λ next. after_lines next others)
+    by more (Ok next) = more next
+    by more (Err place) = refl
 
--- a line without fault
-pub line_taken : (all : Result (Option Draft) ScriptPlace) (draft next : Option Draft) (at i : ℕ) (line : List ℕ) (pieces : List (List ℕ)) → (i < length pieces) × (line ≡ get_or pieces i line)
-    → all ≡ after_lines draft (counted_from at (drop i pieces)) → after_lines draft (counted_from at (line ∷ [])) ≡ Ok next
-    → all ≡ after_lines next (counted_from (at + 1) (drop (i + 1) pieces))
-line_taken all draft next at i line pieces turn so_far taken =
-    so_far ∙ line_turn draft at i line pieces turn
-    ∙ ap (λ (r : Result (Option Draft) ScriptPlace). followed r (λ next. after_lines next (counted_from (at + 1) (drop (i + 1) pieces)))) taken
+pub drafts_on : ReadsOn after_lines
+drafts_on = record { none = λ draft. refl; append = after_lines-append }
 
 -- a line that failed
 pub line_failed : (e : ScriptFault) (all : Result (Option Draft) ScriptPlace) (draft : Option Draft) (at i : ℕ) (line : List ℕ) (pieces : List (List ℕ)) → (i < length pieces) × (line ≡ get_or pieces i line)
     → all ≡ after_lines draft (counted_from at (drop i pieces)) → Fails e (after_lines draft (counted_from at (line ∷ []))) → Fails e all
-line_failed fault.Memory all draft at i line pieces turn so_far failed = tt
-line_failed (fault.Bad place) all draft at i line pieces turn so_far failed =
-    so_far ∙ line_turn draft at i line pieces turn
-    ∙ ap (λ (r : Result (Option Draft) ScriptPlace). followed r (λ next. after_lines next (counted_from (at + 1) (drop (i + 1) pieces)))) failed
-
--- no line is left
-pub lines_end : (draft : Option Draft) (at i : ℕ) (pieces : List (List ℕ)) → length pieces ≡ i → after_lines draft (counted_from at (drop i pieces)) ≡ Ok draft
-lines_end draft at i pieces all = ap (λ (ps : List (List ℕ)). after_lines draft (counted_from at ps)) (drop_all i pieces (omega arith))
+line_failed fault.Memory all draft at i line pieces turn before failed = tt
+line_failed (fault.Bad place) all draft at i line pieces turn before failed = line_refused after_lines drafts_on all draft place at i line pieces turn before failed

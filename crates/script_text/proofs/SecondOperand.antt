@@ -7,9 +7,8 @@ use Rattle.set_table.specs.declared.SetName.TheVariants.{One16, Toy16, S4096, S8
 use Rattle.set_table.specs.Sets.{degree_of, plain_of}
 use Rattle.script_text.specs.declared.keyword.Second.{Second}
 use Rattle.script_text.specs.declared.keyword.Second.TheVariants.{Factor, Distance}
-use Rattle.script_text.specs.Reading.{written_number}
-use Rattle.script_text.specs.Names.{is_number}
-use Rattle.script_text.specs.Grammar.{Draft, is_second, second_value, is_number_in}
+use Rattle.line_text.specs.Names.{written_number, is_number, is_number_in}
+use Rattle.script_text.specs.Grammar.{Draft, is_second, second_value}
 
 pub below_end : (low end : ℕ) (word : List ℕ) → is_number_in low end word ≡ true → written_number word < end
 below_end low end word is =

@@ -13,10 +13,11 @@ use Rattle.script_text.specs.declared.keyword.Keyword.{Keyword}
 use Rattle.script_text.specs.declared.script.InputKind.{InputKind}
 use Rattle.script_text.specs.declared.script.InputKind.TheVariants as kind
 use Rattle.script_text.specs.declared.script.Input.{Input}
-use Rattle.script_text.specs.Names.{is_name}
+use Rattle.line_text.specs.Names.{is_name}
 use Rattle.script_text.specs.Keywords.{keyword_named}
 use Rattle.script_text.specs.Scripts.{IsSound, cipher_inputs}
-use Rattle.script_text.specs.Grammar.{Draft, Line, is_new, register_named, set_named, input_line, output_line, short_line, keyword_after, next_line, set_line, after_line, after_lines, is_input_line, is_step_line, is_too_long, counted_lines, demand, demand_some}
+use Rattle.line_text.specs.Lines.{Line, counted_lines}
+use Rattle.script_text.specs.Grammar.{Draft, is_new, register_named, set_named, input_line, output_line, short_line, keyword_after, next_line, set_line, after_line, after_lines, is_input_line, is_step_line, is_too_long, demand, demand_some}
 use Rattle.script_text.proofs.Inversion.{demand_ok, demand_some_ok, followed_ok}
 use Rattle.script_text.proofs.SoundLines.{DraftSound, Kept, StepKept, empty_list, input_sound, register_below, short_step_kept, long_step_kept}
 

@@ -15,11 +15,10 @@ use Rattle.script_text.specs.declared.keyword.Second.{Second}
 use Rattle.script_text.specs.declared.keyword.Second.TheVariants.{Nothing, Register, Plain, Factor, Distance}
 use Rattle.script_text.specs.declared.script.Input.{Input}
 use Rattle.script_text.specs.declared.script.Step.{Step}
-use Rattle.script_text.specs.Reading.{written_number}
-use Rattle.script_text.specs.Names.{is_name, is_number}
+use Rattle.line_text.specs.Names.{written_number, is_name, is_number, is_number_in}
 use Rattle.script_text.specs.Keywords.{second_of, operation}
 use Rattle.script_text.specs.Scripts.{cipher_inputs, plain_inputs, names_of, parts_of, parts_made, registers, AllFit, Fits}
-use Rattle.script_text.specs.Grammar.{Draft, is_new, register_named, plain_named, is_second, second_value, takes_one, has_shape, with_step, short_step, long_step, is_input_line, is_step_line, is_number_in}
+use Rattle.script_text.specs.Grammar.{Draft, is_new, register_named, plain_named, is_second, second_value, takes_one, has_shape, with_step, short_step, long_step, is_input_line, is_step_line}
 use Rattle.script_text.proofs.Inversion.{demand_ok, demand_some_ok}
 use Rattle.script_text.proofs.Registers.{length-parts_of}
 use Rattle.script_text.proofs.Fitting.{SecondFits, operation_fits}

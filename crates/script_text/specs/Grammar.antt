@@ -1,12 +1,12 @@
--- The grammar of scripts: the script that a text is, or its first fault.
-use Rattle.std.specs.Prelude.{ℕ, ◌+◌, ◌-◌, ◌/◌, take, Bool, true, false, ◌||◌, ◌&&◌, not, nat_lt, nat_le, ◌==◌, if◌then◌else◌, List, [], ◌∷◌, ◌++◌, length, map, filter, Option, Some, None, is_none, Result, Ok, Err, codes, slice_index, position}
-use Rattle.std.specs.List.{slice_split, count_by, find}
+-- The grammar of scripts: the script that a text is, or its first fault. Lines and words are those of any text.
+use Rattle.std.specs.Prelude.{ℕ, ◌+◌, ◌/◌, Bool, true, false, ◌||◌, ◌&&◌, not, nat_lt, ◌==◌, if◌then◌else◌, List, [], ◌∷◌, ◌++◌, length, map, Option, Some, None, is_none, Result, Ok, Err, codes, slice_index, position}
+use Rattle.std.specs.List.{count_by, find}
 use Rattle.std.specs.Str.{bytes_eq}
 use Rattle.set_table.specs.declared.SetName.{SetName}
 use Rattle.set_table.specs.declared.SetName.TheVariants.{One16, Toy16, S4096, S8192, S16384}
 use Rattle.set_table.specs.Sets.{name_of, degree_of, plain_of}
-use Rattle.script_text.specs.Reading.{written_number}
-use Rattle.script_text.specs.Names.{is_name, is_number}
+use Rattle.line_text.specs.Lines.{Line, lines_of, counted_lines}
+use Rattle.line_text.specs.Names.{written_number, is_name, is_number_in}
 use Rattle.script_text.specs.Keywords.{keyword_named, second_of, operation}
 use Rattle.script_text.specs.declared.keyword.Keyword.{Keyword}
 use Rattle.script_text.specs.declared.keyword.Second.{Second}
@@ -20,47 +20,6 @@ use Rattle.script_text.specs.declared.script.Op.TheVariants.{Mul, Relin, Turn, S
 use Rattle.script_text.specs.declared.script.Input.{Input}
 use Rattle.script_text.specs.declared.script.Step.{Step}
 use Rattle.script_text.specs.Scripts.{Script, cipher_inputs, plain_inputs, names_of, parts_of}
-
--- ---- lines and words
-
--- space, tab and carriage return
-abbrev pub is_blank_in_line : ℕ → Bool
-is_blank_in_line byte = (byte == 32) || (byte == 9) || (byte == 13)
-
--- the words of a line: what stands between blanks
-abbrev pub words_of : List ℕ → List (List ℕ)
-words_of line = filter (λ word. nat_lt 0 (length word)) (slice_split is_blank_in_line line)
-
--- a text without a line feed at its end
-abbrev pub without_end : List ℕ → List ℕ
-without_end text = if slice_index text (length text - 1) == 10 then take (length text - 1) text else text
-
--- the lines of a text end at line feeds; the last may lack it
-abbrev pub lines_of : List ℕ → List (List ℕ)
-lines_of text = if length text == 0 then [] else slice_split (λ byte. byte == 10) (without_end text)
-
--- a line's number in the text and its words
-pub record Line : Type 0 where
-  pub number : ℕ
-  pub words : List (List ℕ)
-
--- lines with their numbers, from this one on
-abbrev pub numbered : ℕ → List (List ℕ) → List Line
-numbered number [] = []
-numbered number (line ∷ lines) = record { number = number; words = words_of line } ∷ numbered (number + 1) lines
-
--- a line without words or whose first word begins with `#` is passed over
-abbrev pub is_passed_over : List (List ℕ) → Bool
-is_passed_over [] = true
-is_passed_over (word ∷ words) = slice_index word 0 == 35
-
--- the lines that aren't passed over, with their numbers from this one on
-abbrev pub counted_from : ℕ → List (List ℕ) → List Line
-counted_from number lines = filter (λ line. not (is_passed_over line.words)) (numbered number lines)
-
--- the lines of a text that aren't passed over
-abbrev pub counted_lines : List ℕ → List Line
-counted_lines text = counted_from 1 (lines_of text)
 
 -- ---- the text as a whole
 
@@ -136,10 +95,6 @@ unfoldable pub output_line : Draft → ℕ → List ℕ → Result Draft ScriptP
 output_line draft at name =
     demand (is_name name) (Syntax at)
     (demand_some (register_named draft name) (Name at) (λ output. Ok (record draft { output = Some output })))
-
--- a number from one on and below another
-abbrev pub is_number_in : ℕ → ℕ → List ℕ → Bool
-is_number_in low end word = is_number word && nat_le low (written_number word) && nat_lt (written_number word) end
 
 -- no second operand is taken
 abbrev pub takes_one : Second → Bool

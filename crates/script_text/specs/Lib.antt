@@ -1,6 +1,5 @@
 pub mod Reading
 pub mod Values
-pub mod Names
 pub mod Scripts
 pub mod Keywords
 pub mod Grammar

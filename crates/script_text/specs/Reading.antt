@@ -1,18 +1,15 @@
 -- What a text of values says.
-use Rattle.std.specs.Prelude.{ℕ, ◌+◌, ◌*◌, ◌-◌, min, Bool, ◌||◌, not, nat_lt, nat_le, ◌==◌, if◌then◌else◌, List, [], ◌∷◌, ◌++◌, length, take, map, fold, filter, position, replicate, Option, Some, None, option_map, Result, Ok, Err}
+use Rattle.std.specs.Prelude.{ℕ, ◌+◌, ◌-◌, min, Bool, ◌||◌, not, nat_lt, nat_le, ◌==◌, if◌then◌else◌, List, [], ◌∷◌, ◌++◌, length, take, map, filter, position, replicate, Option, Some, None, option_map, Result, Ok, Err}
 use Rattle.std.specs.List.{list_all, slice_split}
 use Rattle.std.specs.Option.{option_or}
 use Rattle.std.specs.Char.{is_ascii_digit}
+use Rattle.line_text.specs.Names.{written_number}
 use Rattle.script_text.specs.declared.faults.ValuePlace.{ValuePlace}
 use Rattle.script_text.specs.declared.faults.ValuePlace.TheVariants.{BadText, TooLarge, TooMany, TooLong}
 
 -- space, tab, carriage return and line feed
 abbrev pub is_blank : ℕ → Bool
 is_blank byte = (byte == 32) || (byte == 9) || (byte == 13) || (byte == 10)
-
--- the number that digits write; leading zeros don't matter
-abbrev pub written_number : List ℕ → ℕ
-written_number digits = fold (λ so_far digit. 10 * so_far + (digit - 48)) 0 digits
 
 -- the numbers of a text, which blanks separate
 abbrev pub numbers : List ℕ → List ℕ

@@ -6,7 +6,7 @@ use Rattle.set_table.specs.declared.SetName.{SetName}
 use Rattle.set_table.specs.declared.KeyKind.{KeyKind}
 use Rattle.set_table.specs.declared.KeyKind.TheVariants as key
 use Rattle.set_table.specs.Sets.{degree_of, plain_of}
-use Rattle.script_text.specs.Names.{is_name}
+use Rattle.line_text.specs.Names.{is_name}
 use Rattle.script_text.specs.declared.script.InputKind.TheVariants.{Cipher, Plain}
 use Rattle.script_text.specs.declared.script.Op.{Op}
 use Rattle.script_text.specs.declared.script.Op.TheVariants.{Add, Sub, Neg, AddPlain, SubPlain, MulPlain, MulConst, Mul, Relin, Turn, Swap}

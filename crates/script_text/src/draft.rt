@@ -1,18 +1,18 @@
 // What the lines of a script give, one after the other.
 ghost use Rattle.std.specs.Prelude.{◌≡◌, ◌+◌, ◌<◌, ◌^◌, [], length, IfOk, IsTrue, slice_index, slice_index_or};
 ghost use Rattle.script_text.specs.Drafts.{draft_seen, Gives, IsKept};
-ghost use Rattle.script_text.specs.Names.{is_name};
+ghost use Rattle.line_text.specs.Names.{is_name};
 ghost use Rattle.script_text.specs.Scripts.{parts_made};
-ghost use Rattle.script_text.specs.Grammar.{register_named, plain_named, is_new, set_line, input_line, output_line, is_second, second_value, has_shape, with_step, short_step, long_step, short_line, keyword_after, next_line, words_of};
+ghost use Rattle.line_text.specs.Lines.{words_of};
+ghost use Rattle.script_text.specs.Grammar.{register_named, plain_named, is_new, set_line, input_line, output_line, is_second, second_value, has_shape, with_step, short_step, long_step, short_line, keyword_after, next_line};
 ghost use Rattle.script_text.specs.declared.faults.ScriptPlace.TheVariants as place;
 ghost use Rattle.script_text.specs.declared.faults.ScriptFault.TheVariants as fault;
 
 use crate::faults::{ScriptFault, ScriptPlace};
 use crate::keyword::{Keyword, Second};
-use crate::name::Name;
-use crate::reading::read_number;
 use crate::script::{Input, InputKind, Op, Step};
-use crate::words::{count_words, is_name, number_in, set_named, word};
+use crate::words::set_named;
+use line_text::{Name, count_words, is_name, number_in, read_number, word};
 use set_table::SetName;
 use std::alloc::Global;
 

@@ -4,14 +4,16 @@ ghost use Rattle.std.specs.List.{count_by};
 ghost use Rattle.std.specs.Option.{option_map};
 ghost use Rattle.script_text.specs.Drafts.{draft_seen, Gives, IsKept};
 ghost use Rattle.script_text.specs.Scripts.{IsSound, parts_of};
-ghost use Rattle.script_text.specs.Grammar.{Line, words_of, without_end, lines_of, counted_lines, counted_from, is_step_line, is_input_line, is_too_long, after_line, after_lines, script_of};
+ghost use Rattle.line_text.specs.Lines.{Line, words_of, counted_lines, counted_from};
+ghost use Rattle.script_text.specs.Grammar.{is_step_line, is_input_line, is_too_long, after_line, after_lines, script_of};
 ghost use Rattle.script_text.specs.declared.faults.ScriptPlace.{ScriptPlace};
 ghost use Rattle.script_text.specs.declared.faults.ScriptFault.TheVariants as fault;
 
 use crate::draft::{Draft, syntax};
 use crate::faults::{ScriptFault, ScriptPlace};
 use crate::script::Script;
-use crate::words::{is_input_line, is_passed_over, is_step_line};
+use crate::words::{is_input_line, is_step_line};
+use line_text::{count_lines, is_passed_over};
 use std::alloc::Global;
 
 const MOST_BYTES: usize = 1_048_576;
@@ -20,22 +22,11 @@ const MOST_INPUTS: usize = 64;
 
 const MOST_STEPS: usize = 4096;
 
-/// A text without a line feed at its end.
-fn without_end(text: &[u8]) -> &[u8]
-    ensures { result.now ≡ without_end text.now }
-{
-    match text.split_last() {
-        Some((b'\n', others)) => others,
-        _ => text,
-    }
-}
-
 /// How many lines count as inputs.
 fn count_inputs(text: &[u8]) -> usize
     ensures { result ≡ count_by (λ line. is_input_line line.words) (counted_lines text.now) }
 {
-    without_end(text)
-        .split(|byte| *byte == b'\n')
+    text.split(|byte| *byte == b'\n')
         .filter(|line| !is_passed_over(line) && is_input_line(line))
         .count()
 }
@@ -44,8 +35,7 @@ fn count_inputs(text: &[u8]) -> usize
 fn count_steps(text: &[u8]) -> usize
     ensures { result ≡ count_by (λ line. is_step_line line.words) (counted_lines text.now) }
 {
-    without_end(text)
-        .split(|byte| *byte == b'\n')
+    text.split(|byte| *byte == b'\n')
         .filter(|line| !is_passed_over(line) && is_step_line(line))
         .count()
 }
@@ -54,16 +44,6 @@ fn is_too_long(text: &[u8]) -> bool
     ensures { result ≡ is_too_long text.now }
 {
     text.len() > MOST_BYTES || count_inputs(text) > MOST_INPUTS || count_steps(text) > MOST_STEPS
-}
-
-/// How many lines a text has.
-fn count_lines(text: &[u8]) -> usize
-    ensures { result ≡ length (lines_of text.now) }
-{
-    if text.is_empty() {
-        return 0;
-    }
-    without_end(text).split(|byte| *byte == b'\n').count()
 }
 
 /// The draft after one more line that isn't passed over.
@@ -117,7 +97,7 @@ fn read_lines(alloc: Global, text: &[u8]) -> Result<Option<Draft>, ScriptFault>
 {
     let mut draft = None;
     let mut at = 1;
-    'lines: for line in without_end(text).split(|byte| *byte == b'\n') {
+    'lines: for line in text.split(|byte| *byte == b'\n') {
         draft = after_piece(alloc, draft, at, line)?;
         at += 1;
     }

@@ -1,13 +1,12 @@
 // Reading a list of values.
 ghost use Rattle.std.specs.Prelude.{◌≡◌, map, length, nat_le, IfOk, position, Err, Ok};
-ghost use Rattle.std.specs.List.{list_all};
-ghost use Rattle.std.specs.Char.{is_ascii_digit};
 ghost use Rattle.std.specs.Io.Iter.{u64_saturate};
-ghost use Rattle.script_text.specs.Reading.{values_of, numbers, written_number, is_blank, first_stray, first_surplus, earlier};
+ghost use Rattle.script_text.specs.Reading.{values_of, numbers, is_blank, first_stray, first_surplus, earlier};
 ghost use Rattle.script_text.specs.declared.faults.ValuePlace.{ValuePlace};
 ghost use Rattle.script_text.specs.declared.faults.ValueFault.TheVariants as fault;
 
 use crate::faults::{ValueFault, ValuePlace};
+use line_text::{all_digits, read_number};
 use std::alloc::{AllocError, Global};
 
 const MOST_BYTES: usize = 4_194_304;
@@ -64,12 +63,6 @@ fn first_surplus(text: &[u8]) -> Option<usize>
     Some(start + MOST_DIGITS)
 }
 
-fn all_digits(bytes: &[u8]) -> bool
-    ensures { result ≡ list_all is_ascii_digit bytes.now }
-{
-    bytes.iter().all(|byte| byte.is_ascii_digit())
-}
-
 fn is_blank(byte: u8) -> bool
     ensures { result ≡ is_blank byte }
 {
@@ -92,18 +85,6 @@ fn read_numbers(alloc: Global, text: &[u8]) -> Result<Vec<u64>, AllocError>
         .filter(|word| !word.is_empty())
         .map(|digits| read_number(digits))
         .collect(alloc)
-}
-
-/// The number that digits write, or the largest `u64` where it is larger.
-pub fn read_number(digits: &[u8]) -> u64
-    ensures { result ≡ u64_saturate (written_number digits.now) }
-{
-    let mut number = 0u64;
-    for digit in digits {
-        let units = u64::from(digit.saturating_sub(b'0'));
-        number = number.saturating_mul(10).saturating_add(units);
-    }
-    number
 }
 
 /// The place of the first value that isn't below `t`.

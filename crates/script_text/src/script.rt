@@ -3,7 +3,7 @@ ghost use Rattle.std.specs.Prelude.{◌≡◌, ◌<◌, ◌+◌, [], slice_index
 ghost use Rattle.script_text.specs.Scripts.{IsSound, parts_of, cipher_inputs};
 ghost use Rattle.script_text.specs.Printed.{register_names, plain_names};
 
-use crate::name::Name;
+use line_text::Name;
 use set_table::SetName;
 use std::marker::Model;
 

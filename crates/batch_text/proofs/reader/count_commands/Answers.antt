@@ -1,8 +1,8 @@
 use Rattle.std.proofs.Common.{◌==◌, ◌∙◌, not, rules, tests}
 use Rattle.std.proofs.lemmas.Iterator.Consumers.{count_from_yields_List, YieldsList-from_filter, YieldsList-at}
 use Rattle.std.proofs.lemmas.Iterator.Splits.{YieldsList-from_slice_split}
-use Rattle.script_text.specs.Grammar.{words_of, is_passed_over}
-use Rattle.batch_text.proofs.Lines.{count-pieces}
+use Rattle.line_text.specs.Lines.{words_of, is_passed_over}
+use Rattle.line_text.proofs.Pieces.{count-pieces}
 use Rattle.batch_text.proofs.reader.count_commands.Goals as goal
 
 pub returns : goal.returns

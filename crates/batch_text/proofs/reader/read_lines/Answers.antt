@@ -4,8 +4,9 @@ use Rattle.std.proofs.lemmas.Iterator.Consumers.{YieldsList-turn, YieldsList-end
 use Rattle.std.proofs.lemmas.Iterator.Splits.{YieldsList-from_slice_split}
 use Rattle.std.proofs.lemmas.Result.{err_from_is_err_and}
 use Rattle.batch_text.specs.Reading.{texts, commands_in}
-use Rattle.batch_text.proofs.Lines.{counted_lines-pieces, pieces_few}
-use Rattle.batch_text.proofs.ReadLines.{line_taken, line_failed, lines_end}
+use Rattle.line_text.proofs.Pieces.{counted_lines-pieces, pieces_few}
+use Rattle.line_text.proofs.Turns.{line_taken, lines_end}
+use Rattle.batch_text.proofs.ReadLines.{commands_on, reads_on, line_failed}
 use Rattle.batch_text.proofs.reader.read_lines.Goals as goal
 
 pub returns-in_err-read_line : goal.returns-in_err-read_line
@@ -23,11 +24,11 @@ lines-preserved c =
     c.lines.yielded _ c.lines.yielded_by _ _ c.in-Some.line c.in-Some.is c.next.ensures.steps in
     let push = length_push c.lines.yielded c.in-Some.line in
     let few = pieces_few c.args.text.now in
-    (search rules, tt, omega arith, omega arith, rw push (line_taken _ _ _ _ _ _ _ turn c.lines.invariant.4 c.in_ok-read_line.ensures))
+    (search rules, tt, omega arith, omega arith, rw push (line_taken commands_on reads_on _ _ _ _ _ _ _ turn c.lines.invariant.4 c.in_ok-read_line.ensures))
 
 pub returns : goal.returns
 returns c =
     let end =
     YieldsList-end (YieldsList-at c.into_iter-line-iterator.ensures.into_iter_gives (YieldsList-from_slice_split _ (λ byte. byte == 10) _ c.split-line-items.ensures.rest c.split-line-items.ensures.done c.split-line-items.ensures.closure (λ x b q k. search (rules, tests))))
     c.lines.yielded _ c.lines.yielded_by _ _ c.in-None.is c.next.ensures.steps in
-    ap commands_in (counted_lines-pieces c.args.text.now) ∙ c.lines.invariant.4 ∙ lines_end (texts c.lines.commands.items) _ _ _ (sym end.1)
+    ap commands_in (counted_lines-pieces c.args.text.now) ∙ c.lines.invariant.4 ∙ lines_end commands_on reads_on (texts c.lines.commands.items) _ _ _ (sym end.1)

@@ -1,7 +1,7 @@
 use Rattle.std.proofs.Common.{◌≡◌, ◌+◌, ◌≤◌, length, drop}
-use Rattle.script_text.specs.Grammar.{counted_from}
+use Rattle.line_text.specs.Lines.{counted_from}
+use Rattle.line_text.proofs.Pieces.{pieces_of}
 use Rattle.batch_text.specs.Reading.{texts, commands_in, behind}
-use Rattle.batch_text.proofs.Lines.{pieces_of}
 use Rattle.batch_text.proofs.reader.read_lines.Given as goal
 
 abbrev pub invariant-lines : goal.invariant-lines

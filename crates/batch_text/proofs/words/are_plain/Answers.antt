@@ -3,7 +3,7 @@ use Rattle.std.proofs.lemmas.Iterator.Consumers.{YieldsList-from_filter, YieldsL
 use Rattle.std.proofs.lemmas.Iterator.Search.{all_from_yields_List}
 use Rattle.std.proofs.lemmas.Iterator.Splits.{YieldsList-from_slice_split}
 use Rattle.std.specs.List.{list_all}
-use Rattle.script_text.specs.Grammar.{is_blank_in_line}
+use Rattle.line_text.specs.Lines.{is_blank_in_line}
 use Rattle.batch_text.specs.Commands.{is_word_byte}
 use Rattle.batch_text.proofs.words.are_plain.Goals as goal
 

@@ -2,7 +2,7 @@ use Rattle.std.proofs.Common.{◌∙◌, length, nat_lt, rules, tests}
 use Rattle.std.proofs.lemmas.Iterator.Consumers.{YieldsList-turn, YieldsList-end, YieldsList-from_filter, YieldsList-at}
 use Rattle.std.proofs.lemmas.Iterator.Splits.{YieldsList-from_slice_split}
 use Rattle.std.specs.List.{list_all}
-use Rattle.script_text.specs.Grammar.{is_blank_in_line, words_of}
+use Rattle.line_text.specs.Lines.{is_blank_in_line, words_of}
 use Rattle.batch_text.specs.Commands.{is_word_byte}
 use Rattle.batch_text.proofs.Plain.{passed_at}
 use Rattle.batch_text.proofs.words.words_of.Goals as goal

@@ -4,7 +4,7 @@ use Rattle.std.specs.Option.{option_map}
 use Rattle.script_text.specs.declared.draft.Draft.{Draft}
 use Rattle.script_text.specs.Drafts.{draft_seen}
 use Rattle.script_text.specs.Scripts.{parts_of}
-use Rattle.script_text.proofs.Lines.{lines_few}
+use Rattle.line_text.proofs.Pieces.{lines_few}
 use Rattle.script_text.proofs.Sound.{draft_sound, bytes_few}
 use Rattle.script_text.proofs.parser.parse.Goals as goal
 

@@ -2,7 +2,8 @@ use Rattle.std.proofs.Common.{length, nat_lt, sym, ◌∙◌, rules, tests}
 use Rattle.std.proofs.lemmas.Iterator.Consumers.{count_from_yields_List, YieldsList-from_filter, YieldsList-at}
 use Rattle.std.proofs.lemmas.Iterator.Splits.{YieldsList-from_slice_split}
 use Rattle.std.proofs.lemmas.List.{length-map}
-use Rattle.script_text.specs.Reading.{is_blank, written_number}
+use Rattle.line_text.specs.Names.{written_number}
+use Rattle.script_text.specs.Reading.{is_blank}
 use Rattle.script_text.proofs.reading.count_numbers.Goals as goal
 
 pub returns : goal.returns

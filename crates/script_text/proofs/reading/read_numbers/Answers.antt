@@ -3,7 +3,8 @@ use Rattle.std.proofs.lemmas.Iterator.{items_from_collect, YieldsList-from_map}
 use Rattle.std.proofs.lemmas.Iterator.Consumers.{YieldsList-from_filter, YieldsList-at}
 use Rattle.std.proofs.lemmas.Iterator.Splits.{YieldsList-from_slice_split}
 use Rattle.std.specs.Io.Iter.{u64_saturate}
-use Rattle.script_text.specs.Reading.{is_blank, written_number}
+use Rattle.line_text.specs.Names.{written_number}
+use Rattle.script_text.specs.Reading.{is_blank}
 use Rattle.script_text.proofs.reading.read_numbers.Goals as goal
 
 -- two maps in turn are one

@@ -1,5 +1,5 @@
 use Rattle.std.proofs.Common.{◌≡◌, ℕ, Some, sym, ap, ◌∙◌, arith}
-use Rattle.script_text.specs.Reading.{written_number}
+use Rattle.line_text.specs.Names.{written_number}
 use Rattle.script_text.specs.Drafts.{draft_seen}
 use Rattle.script_text.proofs.SecondOperand.{second_small, second_is_number}
 use Rattle.script_text.proofs.draft.Draft.second_value.Goals as goal

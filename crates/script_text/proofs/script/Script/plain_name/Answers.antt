@@ -4,7 +4,7 @@ use Rattle.std.proofs.lemmas.Iterator.Consumers.{nth_from_yields_List, YieldsLis
 use Rattle.script_text.specs.declared.script.Input.{Input}
 use Rattle.script_text.specs.Scripts.{Script, is_plain, plain_inputs}
 use Rattle.script_text.specs.Printed.{plain_names}
-use Rattle.script_text.proofs.WordAt.{word_some, word_none}
+use Rattle.line_text.proofs.WordAt.{word_some, word_none}
 use Rattle.script_text.proofs.script.Script.plain_name.Goals as goal
 
 pub returns-in-Some : goal.returns-in-Some

@@ -3,7 +3,7 @@ use Rattle.std.proofs.lemmas.Iterator.{YieldsList-from_slice, YieldsList-from_ma
 use Rattle.std.proofs.lemmas.Iterator.Consumers.{nth_from_yields_List, YieldsList-from_filter, YieldsList-from_chain, YieldsList-at}
 use Rattle.script_text.specs.Scripts.{Script, is_cipher, cipher_inputs, names_of}
 use Rattle.script_text.specs.Printed.{register_names}
-use Rattle.script_text.proofs.WordAt.{word_some, word_none}
+use Rattle.line_text.proofs.WordAt.{word_some, word_none}
 use Rattle.script_text.proofs.script.Script.register_name.Goals as goal
 
 pub returns-in-Some : goal.returns-in-Some

@@ -1,7 +1,0 @@
-use Rattle.std.proofs.Common.{◌≡◌, take}
-use Rattle.std.specs.Io.Iter.{u64_saturate}
-use Rattle.script_text.specs.Reading.{written_number}
-use Rattle.script_text.proofs.reading.read_number.Given as goal
-
-abbrev pub invariant-loop-digit : goal.invariant-loop-digit
-invariant-loop-digit l = l.number ≡ u64_saturate (written_number (take l.digit-index l.digits))
