@@ -18,6 +18,7 @@ use Rattle.bound_num.proofs.Digits.{Leads, bit_length-leads}
 use Rattle.bound_num.proofs.Closed.{div_ceil-le_leads, div-lt_leads, up_value, down_value}
 use Rattle.ring_law.specs.Moduli.{product}
 use Rattle.bfv_model.specs.Limit.{limit}
+use Rattle.bfv_model.proofs.Limits.{limit_le}
 use Rattle.script_text.specs.declared.script.Op.{Op}
 use Rattle.script_text.specs.declared.script.Op.TheVariants.{Add, Sub, Neg, AddPlain, SubPlain, MulPlain, MulConst, Mul, Relin, Turn, Swap}
 use Rattle.script_text.specs.declared.script.Step.{Step}
@@ -27,7 +28,7 @@ use Rattle.noise_check.specs.ExactBounds.{exact_bounds}
 use Rattle.noise_check.specs.RoundedBounds.{rounded_bound, rounded_bounds}
 use Rattle.noise_check.specs.declared.verdict.Verdict.TheVariants.{Accepted, TooNoisy}
 use Rattle.noise_check.specs.Verdicts.{first_above, verdict_at, verdict_of}
-use Rattle.noise_check.proofs.Registers.{above_limit-exact}
+use Rattle.noise_check.proofs.Registers.{above_limit-exact, exact-le-rounded}
 use Rattle.noise_check.proofs.BoundLists.{zero_bound, length-numbers, numbers_push, bound_of-value, map-bound_of}
 
 -- x is the number of a canonical bound
@@ -146,6 +147,20 @@ accepted_within script inputs bounds canonical same = λ i d below.
     subst (λ x. x ≤ limit (data_of script.set))
     (ap (λ list. get_or list i 0) (sym values) ∙ get_or-map_within (λ (bound : Bound). bound_value bound.m bound.e) bounds i d 0 below)
     (ltb-false (limit (data_of script.set)) (get_or (rounded_bounds script (numbers inputs)) i 0) not_above)
+
+-- no rounded bound of an accepted script is above the limit, and no exact one above the rounded one
+pub accepted_quiet : (script : Script) (inputs : List ℕ) (bounds : List Bound) → verdict_of script inputs ≡ Accepted bounds →
+    (register : ℕ) → 4 * get_or (exact_bounds script inputs) register 0 ≤ product (data_of script.set)
+accepted_quiet script inputs bounds same register =
+    let rounded = rounded_bounds script inputs in
+    let within : get_or rounded register 0 ≤ limit (data_of script.set) = ⊎_elim
+    (λ (below : register < length rounded). ltb-false (limit (data_of script.set)) (get_or rounded register 0)
+    (none_above (nat_lt (limit (data_of script.set))) rounded register (accepted script rounded bounds same).none below))
+    (λ (past : length rounded ≤ register). let nothing = get_or_past rounded register 0 past in omega arith)
+    (cases_lt register (length rounded)) in
+    let exact = exact-le-rounded script inputs register in
+    let quarter = limit_le (data_of script.set) in
+    omega arith
 
 -- ---- scripts that are too noisy
 bound_down : (x : ℕ) → IsBound (down x)

@@ -31,8 +31,10 @@ pub fn law_of_rounding()
 {}
 
 /// The bounds of an accepted script are its rounded ones, in canonical form, and none is above the
-/// limit. Of a script that is too noisy the bound that is told is above the limit that is told, and
-/// eight times the exact bound of some register is above the product of the data moduli.
+/// limit; and four times the exact bound of each register is at most the product of the data moduli,
+/// as decryption needs it. Of a script that is too noisy the bound that is told is above the limit
+/// that is told, and eight times the exact bound of some register is above the product of the data
+/// moduli.
 pub fn law_of_verdicts()
     ensures accepted_values { (script : Script) (inputs bounds : List Bound)
         → AllCanonical inputs
@@ -46,6 +48,10 @@ pub fn law_of_verdicts()
         → AllCanonical inputs
         → verdict_of script (numbers inputs) ≡ Verdict.Accepted bounds
         → All (λ bound. bound_value bound.m bound.e ≤ limit (data_of script.set)) bounds }
+    ensures accepted_quiet { (script : Script) (inputs : List ℕ) (bounds : List Bound)
+        → verdict_of script inputs ≡ Verdict.Accepted bounds
+        → (register : ℕ)
+        → 4 * slice_index (exact_bounds script inputs) register ≤ product (data_of script.set) }
     ensures too_noisy_canonical { (script : Script) (inputs : List Bound) (line : ℕ) (bound most : Bound)
         → AllCanonical inputs
         → verdict_of script (numbers inputs) ≡ Verdict.TooNoisy line bound most
