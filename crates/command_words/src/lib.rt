@@ -5,6 +5,8 @@
 mod form;
 mod line;
 mod status;
+#[cfg(test)]
+mod tests;
 
 pub use form::{Form, binding_file, binding_name, form_of};
 pub use line::{accepted_line, put_line};
