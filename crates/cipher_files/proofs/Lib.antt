@@ -1,5 +1,6 @@
 pub mod Ranges
 pub mod Parts
+pub mod ScanFaults
 pub mod Sets
 pub mod Fronts
 pub mod Bodies

@@ -3,6 +3,7 @@ pub mod Scan
 pub mod Reading
 pub mod Fronts
 pub mod Scanning
+pub mod ScanFaults
 pub mod SecondReading
 pub mod Contents
 pub mod Writing

@@ -9,6 +9,8 @@ ghost use Rattle.cipher_files.specs.Scan as scan;
 ghost use Rattle.cipher_files.specs.Scan.{set_of_number, tested_fields};
 ghost use Rattle.cipher_files.specs.Fronts.{head_at, set_tests, head_tests};
 ghost use Rattle.cipher_files.specs.Scanning.{IsTestFault};
+ghost use Rattle.cipher_files.specs.ScanFaults.{IsScanFault, is_field};
+ghost use Rattle.cipher_files.specs.declared.head.Wanted.{Wanted};
 ghost use Rattle.cipher_files.specs.declared.faults.FileFault.{FileFault};
 
 use crate::field_rules::{
@@ -39,10 +41,12 @@ fn bad_field(offset: u32) -> FileFault
 
 /// The fault of the field at this offset, where its rule is broken.
 fn check_field(passes: bool, offset: u32) -> Result<(), FileFault>
+    requires field { is_field offset ≡ true }
     ensures ok { OnOk result (passes ≡ true) }
     ensures broken { IfErr result (λ _. passes ≡ false) }
     ensures fault { IfErr result (λ fault. fault ≡ scan.bad_field offset) }
     ensures faults { IsTestFault result }
+    ensures kept { (wanted : Wanted) → IfErr result (IsScanFault wanted) }
 {
     if passes {
         Ok(())
@@ -61,6 +65,7 @@ fn kind_in(front: &[u8], wanted: Wanted) -> Result<FileKind, FileFault>
     ensures err { IfErr result (λ fault. (further : FileKind → SetName → Result FileContent FileFault)
         → head_tests wanted front.now further ≡ Err fault) }
     ensures faults { IsTestFault result }
+    ensures kept { IfErr result (IsScanFault wanted) }
 {
     if !front.starts_with(&FORMAT_NAME) {
         return Err(FileFault::NotOurs);
@@ -98,6 +103,7 @@ fn fields_in(front: &[u8], kind: FileKind, set: SetName) -> Result<Head, FileFau
     ensures err { IfErr result (λ fault. (further : Result FileContent FileFault)
         → tested_fields kind set front.now further ≡ Err fault) }
     ensures faults { IsTestFault result }
+    ensures kept { (wanted : Wanted) → IfErr result (IsScanFault wanted) }
 {
     let parts = front[10];
     let element = number_4(front, 12);
@@ -135,6 +141,7 @@ pub fn head_in(front: &[u8], wanted: Wanted) -> Result<Head, FileFault>
     ensures err { IfErr result (λ fault. (further : FileKind → SetName → Result FileContent FileFault)
         → head_tests wanted front.now further ≡ Err fault) }
     ensures faults { IsTestFault result }
+    ensures kept { IfErr result (IsScanFault wanted) }
 {
     let kind = kind_in(front, wanted)?;
     match set_of(front[9]) {

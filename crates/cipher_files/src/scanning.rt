@@ -1,5 +1,5 @@
 // A file read once and tested.
-ghost use Rattle.std.specs.Prelude.{◌≡◌, ℕ, ◌+◌, ◌*◌, ◌^◌, ◌<◌, true, ◌++◌, length, List, take, Some, Ok, Err, IfOk, IsErrOf, find};
+ghost use Rattle.std.specs.Prelude.{◌≡◌, ℕ, ◌+◌, ◌*◌, ◌^◌, ◌<◌, true, ◌++◌, length, List, take, Some, Ok, Err, IfOk, IfErr, IfSome, IsErrOf, find};
 ghost use Rattle.std.specs.List.{range_with_len};
 ghost use Rattle.std.specs.Option.{ForSome};
 ghost use Rattle.sha2.specs.Hashers.{Holds256};
@@ -11,6 +11,8 @@ ghost use Rattle.bfv_model.specs.FileTests.{stated_count, content_at};
 ghost use Rattle.cipher_files.specs.Scan.{digest_fits, is_unreduced, scanned, tested_body};
 ghost use Rattle.cipher_files.specs.Reading.{FileCause, FileTold};
 ghost use Rattle.cipher_files.specs.Fronts.{BeginsWith};
+ghost use Rattle.cipher_files.specs.ScanFaults.{IsScanFault};
+ghost use Rattle.cipher_files.specs.declared.head.Wanted.{Wanted};
 
 use crate::file_part::read_part;
 use crate::front::head_in;
@@ -35,6 +37,7 @@ fn scan_head<S: Store>(
     ensures rules { IfOk result (λ head. HeadKeepsRules head × (wants wanted head.kind ≡ true)) }
     ensures few { IfOk result (λ head. head.words < 2 ^ 32) }
     ensures once { IsErrOf result (FileFault.Damaged Damage.Changed) → ⊥ }
+    ensures kept { IfErr result (IsScanFault wanted) }
     ensures told { ForSome (S.state store.old).files (λ files. FileTold files name.now result
         (λ bytes head. BeginsWith wanted bytes head
         × ((m : List ℕ) → Holds256 hasher.old m → Holds256 hasher.new (m ++ take 64 bytes)))
@@ -65,6 +68,8 @@ fn scan_words<S: Store>(
     ensures keeps { OnlyReads (S.state store.old) (S.state store.new) }
     ensures cause { FileCause (S.state store.old) (S.state store.new) result }
     ensures once { IsErrOf result (FileFault.Damaged Damage.Changed) → ⊥ }
+    ensures kept { (wanted : Wanted) → IfErr result (IsScanFault wanted) }
+    ensures below { IfOk result (λ unreduced. IfSome unreduced (λ word. word < head.now.words)) }
     ensures told { ForSome (S.state store.old).files (λ files. FileTold files name.now result
         (λ bytes unreduced.
         (unreduced ≡ find (is_unreduced head.now.kind head.now.set bytes) (range_with_len 0 head.now.words))
@@ -104,6 +109,7 @@ fn has_digest<S: Store>(
     ensures keeps { OnlyReads (S.state store.old) (S.state store.new) }
     ensures cause { FileCause (S.state store.old) (S.state store.new) result }
     ensures once { IsErrOf result (FileFault.Damaged Damage.Changed) → ⊥ }
+    ensures kept { (wanted : Wanted) → IfErr result (IsScanFault wanted) }
     ensures told { ForSome (S.state store.old).files (λ files. FileTold files name.now result
         (λ bytes fits. fits ≡ digest_fits head.now.words bytes)
         (λ _ _. ⊥)) }
@@ -124,6 +130,7 @@ fn scan_body<S: Store>(
     mut hasher: Sha256,
 ) -> Result<(), FileFault>
     requires few { head.now.words < 2 ^ 32 }
+    requires rules { HeadKeepsRules head.now }
     requires told_size { ForSome (S.state store.old).files (λ files.
         size ≡ length (contents files name.now)) }
     requires there { ForSome (S.state store.old).files (λ files.
@@ -135,6 +142,7 @@ fn scan_body<S: Store>(
     ensures keeps { OnlyReads (S.state store.old) (S.state store.new) }
     ensures cause { FileCause (S.state store.old) (S.state store.new) result }
     ensures once { IsErrOf result (FileFault.Damaged Damage.Changed) → ⊥ }
+    ensures kept { (wanted : Wanted) → wants wanted head.now.kind ≡ true → IfErr result (IsScanFault wanted) }
     ensures told { ForSome (S.state store.old).files (λ files. FileTold files name.now result
         (λ bytes _. tested_body head.now.kind head.now.set bytes
         ≡ Ok (content_at head.now.kind head.now.set bytes))
@@ -165,6 +173,7 @@ pub fn scan<S: Store>(store: &mut S, name: &str, wanted: Wanted) -> Result<Head,
     ensures cause { FileCause (S.state store.old) (S.state store.new) result }
     ensures rules { IfOk result (λ head. HeadKeepsRules head × (wants wanted head.kind ≡ true)) }
     ensures once { IsErrOf result (FileFault.Damaged Damage.Changed) → ⊥ }
+    ensures kept { IfErr result (IsScanFault wanted) }
     ensures told { ForSome (S.state store.old).files (λ files. FileTold files name.now result
         (λ bytes head. (content : FileContent) × (scanned wanted bytes ≡ Ok content)
         × IsHeadOf head content × IsBytes bytes)

@@ -1,5 +1,5 @@
 // The words of a file, and which of them aren't below their moduli.
-ghost use Rattle.std.specs.Prelude.{◌≡◌, ℕ, ◌+◌, ◌*◌, ◌<◌, ◌≤◌, List, length, find};
+ghost use Rattle.std.specs.Prelude.{◌≡◌, ℕ, ◌+◌, ◌*◌, ◌<◌, ◌≤◌, List, length, find, IfSome};
 ghost use Rattle.std.specs.List.{range_with_len};
 ghost use Rattle.bfv_model.specs.Bytes.{bytes_from};
 ghost use Rattle.bfv_model.specs.FileText as text;
@@ -31,7 +31,8 @@ fn is_unreduced(head: &Head, piece: &[u8], start: u64, j: usize) -> bool
 /// begins at the word `start`.
 pub fn first_unreduced(head: &Head, piece: &[u8], start: u64) -> Option<u64>
     requires fits { start + length piece.now < 18446744073709551616 }
-    ensures { (bytes : List ℕ) (count : ℕ) → length piece.now ≡ 8 * count
+    ensures inside { IfSome result (λ word. 8 * word + 8 ≤ 8 * start + length piece.now) }
+    ensures first { (bytes : List ℕ) (count : ℕ) → length piece.now ≡ 8 * count
         → piece.now ≡ bytes_from (64 + 8 * start) (length piece.now) bytes
         → result ≡ find (scan.is_unreduced head.now.kind head.now.set bytes) (range_with_len start count) }
 {

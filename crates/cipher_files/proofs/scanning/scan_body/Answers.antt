@@ -4,6 +4,8 @@ use Rattle.outer_io.specs.Store.{contents}
 use Rattle.sha2.specs.Hashers.{Holds256}
 use Rattle.bfv_model.proofs.Bytes.{take-bytes_from}
 use Rattle.cipher_files.specs.Scan.{digest_fits}
+use Rattle.cipher_files.proofs.ScanFaults.{some_below}
+use Rattle.std.proofs.lemmas.Result.{err_from_is_err_and}
 use Rattle.cipher_files.proofs.Bodies.{body_length, body_digest, body_words}
 use Rattle.cipher_files.proofs.scanning.scan_body.Goals as goal
 
@@ -70,3 +72,21 @@ returns-in-None-clause-told g c = λ files told.
       missing = search rules;
       fault = search rules;
     }
+
+pub returns-in-Some-clause-kept : goal.returns-in-Some-clause-kept
+returns-in-Some-clause-kept g c = λ wanted is. record {
+  head = c.args.head.now;
+  rules = c.requires.rules;
+  wanted_is = is;
+  below = some_below c.in_ok-unreduced.unreduced c.in-Some.word c.args.head.now.words c.in-Some.is c.in_ok-unreduced.ensures.below;
+}
+
+pub returns-in_err-unreduced-clause-kept : goal.returns-in_err-unreduced-clause-kept
+returns-in_err-unreduced-clause-kept g c =
+    let p = err_from_is_err_and c.from_residual.result c.from_residual.ensures.1 in
+    rw (p.1, p.2) (λ wanted is. c.in_err-unreduced.ensures.kept wanted)
+
+pub returns-in_err-has_digest-clause-kept : goal.returns-in_err-has_digest-clause-kept
+returns-in_err-has_digest-clause-kept g c =
+    let p = err_from_is_err_and c.from_residual-in_err-has_digest.result c.from_residual-in_err-has_digest.ensures.1 in
+    rw (p.1, p.2) (λ wanted is. c.in_err-has_digest.ensures.kept wanted)

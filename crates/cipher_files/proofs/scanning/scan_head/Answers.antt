@@ -2,6 +2,8 @@ use Rattle.std.proofs.Common.{◌≡◌, ℕ, ◌∙◌, ◌++◌, subst, rules,
 use Rattle.outer_io.specs.Store.{contents}
 use Rattle.sha2.specs.Hashers.{Holds256}
 use Rattle.cipher_files.proofs.Parts.{front_read}
+use Rattle.std.proofs.lemmas.Result.{err_from_is_err_and}
+use Rattle.cipher_files.proofs.ScanFaults.{ends_kept}
 use Rattle.cipher_files.proofs.Fronts.{front_passes, front_fails}
 use Rattle.cipher_files.proofs.scanning.scan_head.Goals as goal
 
@@ -29,3 +31,8 @@ returns-in-Err-clause-told g c = λ files told.
       missing = λ is. absurd (c.in-Err.ensures.faults.not_missing is);
       fault = inr (read.0, front_fails c.args.wanted bytes c.read_part.new.buf c.in-Err.fault front c.in-Err.ensures.err);
     }
+
+pub returns-in_err-read_part-clause-kept : goal.returns-in_err-read_part-clause-kept
+returns-in_err-read_part-clause-kept g c =
+    let p = err_from_is_err_and c.from_residual.result c.from_residual.ensures.1 in
+    rw (p.1, p.2) (ends_kept c.args.wanted _ _ 64 c.in_err-read_part.field-0.0 (simp length-take (omega arith)) c.in_err-read_part.ensures.ended)

@@ -1,5 +1,5 @@
-use Rattle.std.proofs.Common.{◌≡◌, ℕ, ◌≤◌, ◌-◌, ◌*◌, ◌++◌, List}
-use Rattle.std.specs.Prelude.{find}
+use Rattle.std.proofs.Common.{◌≡◌, ℕ, ◌<◌, ◌≤◌, ◌-◌, ◌*◌, ◌++◌, List}
+use Rattle.std.specs.Prelude.{find, IfSome}
 use Rattle.std.specs.List.{range_with_len}
 use Rattle.std.specs.Option.{ForSome}
 use Rattle.outer_io.specs.Store.{OnlyReads, contents}
@@ -14,6 +14,7 @@ invariant-pieces g l =
     record {
       keeps : OnlyReads (state l.fn.store) (state l.store);
       within : l.done ≤ l.words;
+      below : IfSome l.unreduced (λ word. word < l.done);
       tested : ForSome (state l.fn.store).files (λ files.
           l.unreduced ≡ find (is_unreduced l.head.kind l.head.set (contents files l.name)) (range_with_len 0 l.done));
       hashed : ForSome (state l.fn.store).files (λ files. (m : List ℕ) → Holds256 l.fn.hasher m
