@@ -1,8 +1,7 @@
 -- What ciphers hold that were written by an operation, row after row.
 use Rattle.std.proofs.Common.{◌≡◌, ⊎_elim, ℕ, ◌+◌, ◌-◌, ◌*◌, ◌/◌, ◌%◌, ◌*ℤ◌, ◌<◌, ◌≤◌, ◌∙◌, arith, sym, subst, ap, ℤ, pos, nat_abs, List, length, slice_index}
 use Rattle.std.proofs.Math.Nat.{mod_self, mul-zero, zero-mod}
-use Rattle.set_table.specs.Sets.{plain_of}
-use Rattle.ring_law.specs.Moduli.{product}
+use Rattle.set_table.specs.Sets.{degree_of, plain_of}
 use Rattle.ring_law.specs.Polynomials.{ring_negative, ring_product, ring_sum}
 use Rattle.ring_law.specs.Residues.{centred_residue, residue}
 use Rattle.ring_law.specs.Rows.{natural_polynomial}
@@ -10,23 +9,19 @@ use Rattle.ring_law.proofs.Congruence.{Congruent-mul, Congruent-refl, Congruent-
 use Rattle.ring_law.proofs.PolynomialRing.{ring_product_congruent}
 use Rattle.ring_law.proofs.Residues.{Congruent-centred_residue, Congruent-from_residues, centred_residue_size, residue-add, residue-mul, residue-neg, residue_equal}
 use Rattle.bfv_model.specs.Holds.{zero_polynomial}
-use Rattle.bfv_model.specs.Plaintexts.{scaled_plain, plain_difference, plain_multiple, plain_negative, plain_product, plain_sum}
+use Rattle.bfv_model.specs.Plaintexts.{plain_difference, plain_multiple, plain_negative, plain_product, plain_sum}
 use Rattle.bfv_model.proofs.LinearOperations.{Holds-add, Holds-add_plain, Holds-mul_constant, Holds-mul_plain, Holds-neg, Holds-sub, Holds-sub_plain}
 use Rattle.bfv_model.proofs.Noise.{Holds-equal_plain, ring_product_zero}
 use Rattle.bfv_model.proofs.Rules.{degree_pos}
-use Rattle.bfv_params.specs.Moduli.{data_at}
 use Rattle.bfv_params.specs.Values.{CipherValue, ContextValue}
 use Rattle.bfv_params.specs.Ciphers.{HoldsIn}
+use Rattle.bfv_linear.specs.Parts.{PartsRepresent, at_first_part, scaled_polynomial}
 use Rattle.bfv_linear.specs.Plaintexts.{centred_plain}
-use Rattle.bfv_linear.proofs.Ciphers.{HoldsIn-written, third_is_zero, with_second}
+use Rattle.bfv_linear.proofs.Ciphers.{HoldsIn-parts, parts_written, third_is_zero, with_second}
 use Rattle.bfv_linear.proofs.Moduli.{both_positive, plain_positive}
 use Rattle.bfv_linear.proofs.Operands.{IsOperand}
-use Rattle.bfv_linear.proofs.Results.{Becomes, Combines, IsZeroModulo, at_first_part}
+use Rattle.bfv_linear.proofs.Results.{Becomes, Combines, IsZeroModulo, KeepsZero}
 use Rattle.bfv_linear.proofs.Written.{WrittenTo}
-
--- the scaled plaintext
-abbrev pub scaled_polynomial : ContextValue → (ℕ → ℕ) → ℕ → ℤ
-scaled_polynomial ctx plain k = pos (scaled_plain (product (data_at ctx.set ctx.level)) (plain_of ctx.set) (plain k))
 
 -- ---- what is 0 modulo q
 zero_negative : (n q : ℕ) (x : ℕ → ℤ) → 0 < q → IsZeroModulo n q x → IsZeroModulo n q (ring_negative x)
@@ -55,48 +50,78 @@ zero_product n q x p positive vanishes k below =
 -- ---- a is written over first, which now is a cipher of count rows
 module _ (n : ℕ) (ctx : ContextValue) (moduli : List ℕ) (a first now : CipherValue) (count : ℕ) (known : IsOperand n ctx moduli a)
     (over : IsOperand n ctx moduli first) (fewer : a.parts ≤ first.parts) (all : count ≡ first.parts * length moduli) where
-  some_coefficients : 0 < n
-  some_coefficients = subst (λ m. 0 < m) (sym known.degree_is) (degree_pos ctx.set)
-
   in_rows : count ≤ 3 * length moduli
   in_rows = ⊎_elim (λ (two : first.parts ≡ 2). let rows = ap (λ (p : ℕ). p * length moduli) two in omega arith)
       (λ (three : first.parts ≡ 3). let rows = ap (λ (p : ℕ). p * length moduli) three in omega arith) over.count
 
-  pub HoldsIn-negative : WrittenTo first (Becomes n moduli (length moduli) (λ j. ring_negative) a.rows) count now
-      → {s : ℕ → ℤ} {m : ℕ → ℕ} {bound : ℕ} → HoldsIn n ctx a s m bound → HoldsIn n ctx now s (plain_negative (plain_of ctx.set) m) bound
-  HoldsIn-negative written h = HoldsIn-written n ctx moduli a first now (λ j. ring_negative) count known over fewer
-      (λ p x in_list positive two vanishes. zero_negative n (slice_index moduli p) x positive vanishes) written all h
-      (Holds-neg some_coefficients (plain_positive ctx.set) (both_positive ctx.set ctx.level) h.holds)
+  -- one operation on the parts of a
+  made_of : (op : ℕ → (ℕ → ℤ) → ℕ → ℤ) → KeepsZero n first.parts moduli (op 2) → WrittenTo first (Becomes n moduli (length moduli) op a.rows) count now
+      → (x : ℕ → ℕ → ℤ) → PartsRepresent n ctx a x → PartsRepresent n ctx now (λ j. op j (x j))
+  made_of op keeps written = parts_written n ctx moduli a first now op count known over fewer keeps written all
 
-  pub HoldsIn-sum : (b : CipherValue) → IsOperand n ctx moduli b → b.parts ≤ first.parts
-      → WrittenTo first (Combines n moduli (length moduli) ring_sum a.rows b.rows) count now
+  pub parts_negative : WrittenTo first (Becomes n moduli (length moduli) (λ j. ring_negative) a.rows) count now
+      → (x : ℕ → ℕ → ℤ) → PartsRepresent n ctx a x → PartsRepresent n ctx now (λ j. ring_negative (x j))
+  parts_negative = made_of (λ j. ring_negative) (λ p x in_list positive two vanishes. zero_negative n (slice_index moduli p) x positive vanishes)
+
+  pub parts_sum : (b : CipherValue) → IsOperand n ctx moduli b → b.parts ≤ first.parts → WrittenTo first (Combines n moduli (length moduli) ring_sum a.rows b.rows) count now
+      → (x y : ℕ → ℕ → ℤ) → PartsRepresent n ctx a x → PartsRepresent n ctx b y → PartsRepresent n ctx now (λ j. ring_sum (x j) (y j))
+  parts_sum b known_b few written x y of_a of_b = made_of (λ j x. ring_sum x (y j))
+      (λ p x in_list positive two vanishes. zero_sum n (slice_index moduli p) x (y 2) positive vanishes (third_is_zero n ctx moduli b known_b y of_b (omega arith) p in_list))
+      (with_second n ctx moduli a b first now ring_sum count known_b in_rows y of_b written) x of_a
+
+  pub parts_difference : (b : CipherValue) → IsOperand n ctx moduli b → b.parts ≤ first.parts
+      → WrittenTo first (Combines n moduli (length moduli) (λ x y. ring_sum x (ring_negative y)) a.rows b.rows) count now
+      → (x y : ℕ → ℕ → ℤ) → PartsRepresent n ctx a x → PartsRepresent n ctx b y → PartsRepresent n ctx now (λ j. ring_sum (x j) (ring_negative (y j)))
+  parts_difference b known_b few written x y of_a of_b = made_of (λ j x. ring_sum x (ring_negative (y j)))
+      (λ p x in_list positive two vanishes. zero_sum n (slice_index moduli p) x (ring_negative (y 2)) positive vanishes
+      (zero_negative n (slice_index moduli p) (y 2) positive (third_is_zero n ctx moduli b known_b y of_b (omega arith) p in_list)))
+      (with_second n ctx moduli a b first now (λ x y. ring_sum x (ring_negative y)) count known_b in_rows y of_b written) x of_a
+
+  pub parts_multiple : (c : ℤ) → WrittenTo first (Becomes n moduli (length moduli) (λ j x i. c *ℤ x i) a.rows) count now
+      → (x : ℕ → ℕ → ℤ) → PartsRepresent n ctx a x → PartsRepresent n ctx now (λ j i. c *ℤ x j i)
+  parts_multiple c = made_of (λ j x i. c *ℤ x i) (λ p x in_list positive two vanishes. zero_multiple n (slice_index moduli p) c x positive vanishes)
+
+  pub parts_product : (y : ℕ → ℤ) → WrittenTo first (Becomes n moduli (length moduli) (λ j x. ring_product n x y) a.rows) count now
+      → (x : ℕ → ℕ → ℤ) → PartsRepresent n ctx a x → PartsRepresent n ctx now (λ j. ring_product n (x j) y)
+  parts_product y = made_of (λ j x. ring_product n x y) (λ p x in_list positive two vanishes. zero_product n (slice_index moduli p) x y positive vanishes)
+
+  pub parts_at_first : (op : (ℕ → ℤ) → ℕ → ℤ) → WrittenTo first (Becomes n moduli (length moduli) (at_first_part op) a.rows) count now
+      → (x : ℕ → ℕ → ℤ) → PartsRepresent n ctx a x → PartsRepresent n ctx now (λ j. at_first_part op j (x j))
+  parts_at_first op = made_of (at_first_part op) (λ p x in_list positive two vanishes. vanishes)
+
+-- ---- what the result holds, by the polynomials that its parts represent
+module _ (n : ℕ) (ctx : ContextValue) (degree : n ≡ degree_of ctx.set) (a now : CipherValue) where
+  some : 0 < n
+  some = subst (λ m. 0 < m) (sym degree) (degree_pos ctx.set)
+
+  pub HoldsIn-negative : ((x : ℕ → ℕ → ℤ) → PartsRepresent n ctx a x → PartsRepresent n ctx now (λ j. ring_negative (x j)))
+      → {s : ℕ → ℤ} {m : ℕ → ℕ} {bound : ℕ} → HoldsIn n ctx a s m bound → HoldsIn n ctx now s (plain_negative (plain_of ctx.set) m) bound
+  HoldsIn-negative words h = HoldsIn-parts n ctx now _ (words (λ j. natural_polynomial (h.part j)) h.represents)
+      (Holds-neg some (plain_positive ctx.set) (both_positive ctx.set ctx.level) h.holds)
+
+  pub HoldsIn-sum : (b : CipherValue)
+      → ((x y : ℕ → ℕ → ℤ) → PartsRepresent n ctx a x → PartsRepresent n ctx b y → PartsRepresent n ctx now (λ j. ring_sum (x j) (y j)))
       → {s : ℕ → ℤ} {m other : ℕ → ℕ} {bound more : ℕ} → HoldsIn n ctx a s m bound → HoldsIn n ctx b s other more
       → HoldsIn n ctx now s (plain_sum (plain_of ctx.set) m other) (bound + more)
-  HoldsIn-sum b known_b few written h hb = HoldsIn-written n ctx moduli a first now (λ j x. ring_sum x (natural_polynomial (hb.part j))) count known over fewer
-      (λ p x in_list positive two vanishes. zero_sum n (slice_index moduli p) x (natural_polynomial (hb.part 2)) positive vanishes
-      (third_is_zero n ctx moduli b known_b hb (omega arith) p in_list))
-      (with_second n ctx moduli a b first now ring_sum count known_b in_rows hb written) all h
-      (Holds-add some_coefficients (plain_positive ctx.set) (both_positive ctx.set ctx.level) h.holds hb.holds)
+  HoldsIn-sum b words h hb =
+      HoldsIn-parts n ctx now (λ j. ring_sum (natural_polynomial (h.part j)) (natural_polynomial (hb.part j))) (words (λ j. natural_polynomial (h.part j)) (λ j. natural_polynomial (hb.part j)) h.represents hb.represents)
+      (Holds-add some (plain_positive ctx.set) (both_positive ctx.set ctx.level) h.holds hb.holds)
 
-  pub HoldsIn-difference : (b : CipherValue) → IsOperand n ctx moduli b → b.parts ≤ first.parts
-      → WrittenTo first (Combines n moduli (length moduli) (λ x y. ring_sum x (ring_negative y)) a.rows b.rows) count now
+  pub HoldsIn-difference : (b : CipherValue)
+      → ((x y : ℕ → ℕ → ℤ) → PartsRepresent n ctx a x → PartsRepresent n ctx b y → PartsRepresent n ctx now (λ j. ring_sum (x j) (ring_negative (y j))))
       → {s : ℕ → ℤ} {m other : ℕ → ℕ} {bound more : ℕ} → HoldsIn n ctx a s m bound → HoldsIn n ctx b s other more
       → HoldsIn n ctx now s (plain_difference (plain_of ctx.set) m other) (bound + more)
-  HoldsIn-difference b known_b few written h hb =
-      HoldsIn-written n ctx moduli a first now (λ j x. ring_sum x (ring_negative (natural_polynomial (hb.part j)))) count known over fewer
-      (λ p x in_list positive two vanishes. zero_sum n (slice_index moduli p) x (ring_negative (natural_polynomial (hb.part 2))) positive vanishes
-      (zero_negative n (slice_index moduli p) (natural_polynomial (hb.part 2)) positive (third_is_zero n ctx moduli b known_b hb (omega arith) p in_list)))
-      (with_second n ctx moduli a b first now (λ x y. ring_sum x (ring_negative y)) count known_b in_rows hb written) all h
-      (Holds-sub some_coefficients (plain_positive ctx.set) (both_positive ctx.set ctx.level) h.holds hb.holds)
+  HoldsIn-difference b words h hb =
+      HoldsIn-parts n ctx now _ (words (λ j. natural_polynomial (h.part j)) (λ j. natural_polynomial (hb.part j)) h.represents hb.represents)
+      (Holds-sub some (plain_positive ctx.set) (both_positive ctx.set ctx.level) h.holds hb.holds)
 
   pub HoldsIn-multiple : (k : ℕ)
-      → WrittenTo first (Becomes n moduli (length moduli) (λ j x i. centred_residue (plain_of ctx.set) (pos k) *ℤ x i) a.rows) count now
+      → ((x : ℕ → ℕ → ℤ) → PartsRepresent n ctx a x → PartsRepresent n ctx now (λ j i. centred_residue (plain_of ctx.set) (pos k) *ℤ x j i))
       → {s : ℕ → ℤ} {m : ℕ → ℕ} {bound : ℕ} → HoldsIn n ctx a s m bound
       → HoldsIn n ctx now s (plain_multiple (plain_of ctx.set) (pos k) m) (nat_abs (centred_residue (plain_of ctx.set) (pos k)) * bound)
-  HoldsIn-multiple c written {s} {m} {bound} h = HoldsIn-written n ctx moduli a first now (λ j x i. factor *ℤ x i) count known over fewer
-      (λ p x in_list positive two vanishes. zero_multiple n (slice_index moduli p) factor x positive vanishes) written all h
+  HoldsIn-multiple c words {s} {m} {bound} h = HoldsIn-parts n ctx now _ (words (λ j. natural_polynomial (h.part j)) h.represents)
       (Holds-equal_plain (plain_multiple (plain_of ctx.set) (pos c) m) same
-      (Holds-mul_constant some_coefficients (plain_positive ctx.set) (both_positive ctx.set ctx.level) h.holds factor))
+      (Holds-mul_constant some (plain_positive ctx.set) (both_positive ctx.set ctx.level) h.holds factor))
     where
       factor : ℤ
       factor = centred_residue (plain_of ctx.set) (pos c)
@@ -107,12 +132,11 @@ module _ (n : ℕ) (ctx : ContextValue) (moduli : List ℕ) (a first now : Ciphe
           (Congruent-refl (plain_of ctx.set) (pos (m k))))
 
   pub HoldsIn-product : (plain : ℕ → ℕ)
-      → WrittenTo first (Becomes n moduli (length moduli) (λ j x. ring_product n x (centred_plain (plain_of ctx.set) plain)) a.rows) count now
+      → ((x : ℕ → ℕ → ℤ) → PartsRepresent n ctx a x → PartsRepresent n ctx now (λ j. ring_product n (x j) (centred_plain (plain_of ctx.set) plain)))
       → {s : ℕ → ℤ} {m : ℕ → ℕ} {bound : ℕ} → HoldsIn n ctx a s m bound
       → HoldsIn n ctx now s (plain_product n (plain_of ctx.set) m plain) (n * (plain_of ctx.set / 2) * bound)
-  HoldsIn-product plain written h = HoldsIn-written n ctx moduli a first now (λ j x. ring_product n x factor) count known over fewer
-      (λ p x in_list positive two vanishes. zero_product n (slice_index moduli p) x factor positive vanishes) written all h
-      (Holds-mul_plain some_coefficients (plain_positive ctx.set) (both_positive ctx.set ctx.level) h.holds {m2 = plain} (plain_of ctx.set / 2) factor
+  HoldsIn-product plain words h = HoldsIn-parts n ctx now _ (words (λ j. natural_polynomial (h.part j)) h.represents)
+      (Holds-mul_plain some (plain_positive ctx.set) (both_positive ctx.set ctx.level) h.holds {m2 = plain} (plain_of ctx.set / 2) factor
       (λ k below. half (plain_of ctx.set) (nat_abs (factor k)) (centred_residue_size (plain_of ctx.set) (pos (plain k)) (plain_positive ctx.set)))
       (record { at = λ k below. Congruent-sym (plain_of ctx.set) (Congruent-centred_residue (plain_of ctx.set) (pos (plain k)) (plain_positive ctx.set)) }))
     where
@@ -122,21 +146,16 @@ module _ (n : ℕ) (ctx : ContextValue) (moduli : List ℕ) (a first now : Ciphe
       half : (t a : ℕ) → 2 * a ≤ t → a ≤ t / 2
       half t a twice = omega arith
 
-  -- what adding a scaled plaintext to part 0, or taking it away, makes of each part
   pub HoldsIn-plain_sum : (plain : ℕ → ℕ)
-      → WrittenTo first (Becomes n moduli (length moduli) (at_first_part (λ x. ring_sum x (scaled_polynomial ctx plain))) a.rows) count now
+      → ((x : ℕ → ℕ → ℤ) → PartsRepresent n ctx a x → PartsRepresent n ctx now (λ j. at_first_part (λ x. ring_sum x (scaled_polynomial ctx plain)) j (x j)))
       → {s : ℕ → ℤ} {m : ℕ → ℕ} {bound : ℕ} → HoldsIn n ctx a s m bound
       → HoldsIn n ctx now s (plain_sum (plain_of ctx.set) m plain) (bound + plain_of ctx.set)
-  HoldsIn-plain_sum plain written h =
-      HoldsIn-written n ctx moduli a first now (at_first_part (λ x. ring_sum x (scaled_polynomial ctx plain))) count known over fewer
-      (λ p x in_list positive two vanishes. vanishes) written all h
-      (Holds-add_plain some_coefficients (plain_positive ctx.set) (both_positive ctx.set ctx.level) h.holds plain)
+  HoldsIn-plain_sum plain words h = HoldsIn-parts n ctx now _ (words (λ j. natural_polynomial (h.part j)) h.represents)
+      (Holds-add_plain some (plain_positive ctx.set) (both_positive ctx.set ctx.level) h.holds plain)
 
   pub HoldsIn-plain_difference : (plain : ℕ → ℕ)
-      → WrittenTo first (Becomes n moduli (length moduli) (at_first_part (λ x. ring_sum x (ring_negative (scaled_polynomial ctx plain)))) a.rows) count now
+      → ((x : ℕ → ℕ → ℤ) → PartsRepresent n ctx a x → PartsRepresent n ctx now (λ j. at_first_part (λ x. ring_sum x (ring_negative (scaled_polynomial ctx plain))) j (x j)))
       → {s : ℕ → ℤ} {m : ℕ → ℕ} {bound : ℕ} → HoldsIn n ctx a s m bound
       → HoldsIn n ctx now s (plain_difference (plain_of ctx.set) m plain) (bound + plain_of ctx.set)
-  HoldsIn-plain_difference plain written h =
-      HoldsIn-written n ctx moduli a first now (at_first_part (λ x. ring_sum x (ring_negative (scaled_polynomial ctx plain)))) count known over fewer
-      (λ p x in_list positive two vanishes. vanishes) written all h
-      (Holds-sub_plain some_coefficients (plain_positive ctx.set) (both_positive ctx.set ctx.level) h.holds plain)
+  HoldsIn-plain_difference plain words h = HoldsIn-parts n ctx now _ (words (λ j. natural_polynomial (h.part j)) h.represents)
+      (Holds-sub_plain some (plain_positive ctx.set) (both_positive ctx.set ctx.level) h.holds plain)

@@ -8,6 +8,7 @@ use Rattle.ring_law.specs.Residues.{residue}
 use Rattle.ring_law.specs.Rows.{RowRepresents}
 use Rattle.ring_law.proofs.Moduli.{positive_from_above_one}
 use Rattle.bfv_params.specs.Rows.{ZeroFrom}
+use Rattle.bfv_linear.specs.Parts.{at_first_part}
 
 -- a row represents op x, for every x that the row `from` represents
 abbrev pub RowBecomes : ((ℕ → ℤ) → ℕ → ℤ) → ℕ → ℕ → List ℕ → List ℕ → Type 0
@@ -20,11 +21,6 @@ IsZeroModulo n q x = (k : ℕ) → k < n → residue q (x k) ≡ 0
 -- row i became what the operation on its part makes of it
 abbrev pub Becomes : ℕ → List ℕ → ℕ → (ℕ → (ℕ → ℤ) → ℕ → ℤ) → List (List ℕ) → ℕ → List ℕ → Type 0
 Becomes n moduli level op a i row = RowBecomes (op (i / level)) n (slice_index moduli (i % level)) (get_or a i []) row
-
--- the operation on part 0 alone
-abbrev pub at_first_part : ((ℕ → ℤ) → ℕ → ℤ) → ℕ → (ℕ → ℤ) → ℕ → ℤ
-at_first_part op zero = op
-at_first_part op (suc j) = λ x. x
 
 pub becomes_first : (n : ℕ) (moduli : List ℕ) (level : ℕ) (op : (ℕ → ℤ) → ℕ → ℤ) (a : List (List ℕ)) (i : ℕ) (row : List ℕ) → i < level
     → RowBecomes op n (slice_index moduli i) (get_or a i []) row → Becomes n moduli level (at_first_part op) a i row

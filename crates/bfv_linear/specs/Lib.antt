@@ -1,1 +1,2 @@
 pub mod Plaintexts
+pub mod Parts

@@ -2,9 +2,11 @@
 
 ghost use Rattle.std.specs.Prelude.{◌≡◌, ℕ, ◌+◌, ℤ, slice_index};
 ghost use Rattle.set_table.specs.Sets.{plain_of};
+ghost use Rattle.ring_law.specs.Polynomials.{ring_negative, ring_sum};
 ghost use Rattle.ring_law.specs.Rows.{IsReduced};
 ghost use Rattle.bfv_model.specs.Plaintexts.{plain_sum, plain_difference};
 ghost use Rattle.bfv_params.specs.Ciphers.{HoldsIn, IsCipherOf};
+ghost use Rattle.bfv_linear.specs.Parts.{PartsRepresent, at_first_part, scaled_polynomial};
 
 use bfv_params::{Cipher, Context};
 use rns_poly::{View, add_into, sub_into};
@@ -23,6 +25,8 @@ pub fn add_plain<const N: usize>(
     ensures of_context { IsCipherOf (ctx.now) (out.new) }
     ensures room { (out.new).room ≡ (out.old).room }
     ensures parts { (out.new).parts ≡ (a.now).parts }
+    ensures words { (x : ℕ → ℕ → ℤ) → PartsRepresent N (ctx.now) (a.now) x → PartsRepresent N (ctx.now) (out.new)
+        (λ j. at_first_part (λ y. ring_sum y (scaled_polynomial (ctx.now) (slice_index plain.now))) j (x j)) }
     ensures sum { (s : ℕ → ℤ) (m : ℕ → ℕ) (bound : ℕ) → HoldsIn N (ctx.now) (a.now) s m bound →
         HoldsIn N (ctx.now) (out.new) s (plain_sum (plain_of (ctx.now).set) m (slice_index plain.now)) (bound + plain_of (ctx.now).set) }
 {
@@ -56,6 +60,8 @@ pub fn sub_plain<const N: usize>(
     ensures of_context { IsCipherOf (ctx.now) (out.new) }
     ensures room { (out.new).room ≡ (out.old).room }
     ensures parts { (out.new).parts ≡ (a.now).parts }
+    ensures words { (x : ℕ → ℕ → ℤ) → PartsRepresent N (ctx.now) (a.now) x → PartsRepresent N (ctx.now) (out.new)
+        (λ j. at_first_part (λ y. ring_sum y (ring_negative (scaled_polynomial (ctx.now) (slice_index plain.now)))) j (x j)) }
     ensures difference { (s : ℕ → ℤ) (m : ℕ → ℕ) (bound : ℕ) → HoldsIn N (ctx.now) (a.now) s m bound →
         HoldsIn N (ctx.now) (out.new) s (plain_difference (plain_of (ctx.now).set) m (slice_index plain.now)) (bound + plain_of (ctx.now).set) }
 {

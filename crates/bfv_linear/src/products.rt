@@ -1,6 +1,6 @@
 //! Products of a ciphertext with a plaintext or a constant.
 
-ghost use Rattle.std.specs.Prelude.{◌≡◌, ℕ, ◌+◌, ◌*◌, ◌/◌, ◌<◌, ◌≤◌, ℤ, pos, nat_abs, length, slice_index, slice_index_or, []};
+ghost use Rattle.std.specs.Prelude.{◌≡◌, ℕ, ◌+◌, ◌*◌, ◌*ℤ◌, ◌/◌, ◌<◌, ◌≤◌, ℤ, pos, nat_abs, length, slice_index, slice_index_or, []};
 ghost use Rattle.set_table.specs.Sets.{plain_of};
 ghost use Rattle.ring_law.specs.Residues.{centred_residue};
 ghost use Rattle.ring_law.specs.Polynomials.{ring_product};
@@ -11,6 +11,7 @@ ghost use Rattle.rns_poly.specs.Transforms.{AreTransforms};
 ghost use Rattle.bfv_model.specs.Plaintexts.{plain_multiple, plain_product};
 ghost use Rattle.bfv_params.specs.Contexts.{data_in, transforms_in, scratch_rows_in};
 ghost use Rattle.bfv_params.specs.Ciphers.{HoldsIn, IsCipherOf};
+ghost use Rattle.bfv_linear.specs.Parts.{PartsRepresent};
 ghost use Rattle.bfv_linear.specs.Plaintexts.{centred_plain};
 
 use crate::centred::{centred_word, set_centred};
@@ -34,6 +35,8 @@ pub fn mul_plain<const N: usize>(
     ensures of_context { IsCipherOf (ctx.now) (out.new) }
     ensures room { (out.new).room ≡ (out.old).room }
     ensures parts { (out.new).parts ≡ (a.now).parts }
+    ensures words { (x : ℕ → ℕ → ℤ) → PartsRepresent N (ctx.now) (a.now) x → PartsRepresent N (ctx.now) (out.new)
+        (λ j. ring_product N (x j) (centred_plain (plain_of (ctx.now).set) (slice_index plain.now))) }
     ensures product { (s : ℕ → ℤ) (m : ℕ → ℕ) (bound : ℕ) → HoldsIn N (ctx.now) (a.now) s m bound →
         HoldsIn N (ctx.now) (out.new) s (plain_product N (plain_of (ctx.now).set) m (slice_index plain.now))
         (N * (plain_of (ctx.now).set / 2) * bound) }
@@ -60,11 +63,9 @@ fn multiply_rows<const N: usize>(
     ensures of_context { IsCipherOf (ctx.now) (out.new) }
     ensures room { (out.new).room ≡ (out.old).room }
     ensures parts { (out.new).parts ≡ (a.now).parts }
-    ensures product { (plain : ℕ → ℕ) →
-        AreTransforms (transforms_in (ctx.now)) factors.entry.rows.now
-        (λ i. centred_plain (plain_of (ctx.now).set) plain) →
-        (s : ℕ → ℤ) (m : ℕ → ℕ) (bound : ℕ) → HoldsIn N (ctx.now) (a.now) s m bound →
-        HoldsIn N (ctx.now) (out.new) s (plain_product N (plain_of (ctx.now).set) m plain) (N * (plain_of (ctx.now).set / 2) * bound) }
+    ensures words { (y : ℕ → ℤ) → AreTransforms (transforms_in (ctx.now)) factors.entry.rows.now (λ i. y) →
+        (x : ℕ → ℕ → ℤ) → PartsRepresent N (ctx.now) (a.now) x →
+        PartsRepresent N (ctx.now) (out.new) (λ j. ring_product N (x j) y) }
 {
     let (moduli, transforms) = (ctx.data_moduli(), ctx.data_transforms());
     let (level, parts) = (moduli.len(), a.parts());
@@ -112,6 +113,8 @@ pub fn mul_const<const N: usize>(ctx: &Context<N>, a: &Cipher<N>, k: u64, out: &
     ensures of_context { IsCipherOf (ctx.now) (out.new) }
     ensures room { (out.new).room ≡ (out.old).room }
     ensures parts { (out.new).parts ≡ (a.now).parts }
+    ensures words { (x : ℕ → ℕ → ℤ) → PartsRepresent N (ctx.now) (a.now) x → PartsRepresent N (ctx.now) (out.new)
+        (λ j i. centred_residue (plain_of (ctx.now).set) (pos k) *ℤ x j i) }
     ensures multiple { (s : ℕ → ℤ) (m : ℕ → ℕ) (bound : ℕ) → HoldsIn N (ctx.now) (a.now) s m bound →
         HoldsIn N (ctx.now) (out.new) s (plain_multiple (plain_of (ctx.now).set) (pos k) m)
         (nat_abs (centred_residue (plain_of (ctx.now).set) (pos k)) * bound) }

@@ -2,8 +2,10 @@
 
 ghost use Rattle.std.specs.Prelude.{◌≡◌, ℕ, ◌+◌, max, ℤ};
 ghost use Rattle.set_table.specs.Sets.{plain_of};
+ghost use Rattle.ring_law.specs.Polynomials.{ring_negative, ring_sum};
 ghost use Rattle.bfv_model.specs.Plaintexts.{plain_sum, plain_difference, plain_negative};
 ghost use Rattle.bfv_params.specs.Ciphers.{HoldsIn, IsCipherOf};
+ghost use Rattle.bfv_linear.specs.Parts.{PartsRepresent};
 
 use bfv_params::{Cipher, Context};
 use rns_poly::{add_into, neg_into, sub_into};
@@ -16,6 +18,8 @@ pub fn add<const N: usize>(ctx: &Context<N>, a: &Cipher<N>, b: &Cipher<N>, out: 
     ensures of_context { IsCipherOf (ctx.now) (out.new) }
     ensures room { (out.new).room ≡ (out.old).room }
     ensures parts { (out.new).parts ≡ max (a.now).parts (b.now).parts }
+    ensures words { (x y : ℕ → ℕ → ℤ) → PartsRepresent N (ctx.now) (a.now) x → PartsRepresent N (ctx.now) (b.now) y →
+        PartsRepresent N (ctx.now) (out.new) (λ j. ring_sum (x j) (y j)) }
     ensures sum { (s : ℕ → ℤ) (m other : ℕ → ℕ) (bound more : ℕ) → HoldsIn N (ctx.now) (a.now) s m bound →
         HoldsIn N (ctx.now) (b.now) s other more →
         HoldsIn N (ctx.now) (out.new) s (plain_sum (plain_of (ctx.now).set) m other) (bound + more) }
@@ -43,6 +47,8 @@ pub fn sub<const N: usize>(ctx: &Context<N>, a: &Cipher<N>, b: &Cipher<N>, out: 
     ensures of_context { IsCipherOf (ctx.now) (out.new) }
     ensures room { (out.new).room ≡ (out.old).room }
     ensures parts { (out.new).parts ≡ max (a.now).parts (b.now).parts }
+    ensures words { (x y : ℕ → ℕ → ℤ) → PartsRepresent N (ctx.now) (a.now) x → PartsRepresent N (ctx.now) (b.now) y →
+        PartsRepresent N (ctx.now) (out.new) (λ j. ring_sum (x j) (ring_negative (y j))) }
     ensures difference { (s : ℕ → ℤ) (m other : ℕ → ℕ) (bound more : ℕ) → HoldsIn N (ctx.now) (a.now) s m bound →
         HoldsIn N (ctx.now) (b.now) s other more →
         HoldsIn N (ctx.now) (out.new) s (plain_difference (plain_of (ctx.now).set) m other) (bound + more) }
@@ -69,6 +75,8 @@ pub fn neg<const N: usize>(ctx: &Context<N>, a: &Cipher<N>, out: &mut Cipher<N>)
     ensures of_context { IsCipherOf (ctx.now) (out.new) }
     ensures room { (out.new).room ≡ (out.old).room }
     ensures parts { (out.new).parts ≡ (a.now).parts }
+    ensures words { (x : ℕ → ℕ → ℤ) → PartsRepresent N (ctx.now) (a.now) x →
+        PartsRepresent N (ctx.now) (out.new) (λ j. ring_negative (x j)) }
     ensures negative { (s : ℕ → ℤ) (m : ℕ → ℕ) (bound : ℕ) → HoldsIn N (ctx.now) (a.now) s m bound →
         HoldsIn N (ctx.now) (out.new) s (plain_negative (plain_of (ctx.now).set) m) bound }
 {

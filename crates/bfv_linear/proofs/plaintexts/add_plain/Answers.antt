@@ -4,7 +4,8 @@ use Rattle.ring_law.specs.Rows.{IsReduced, RowRepresents}
 use Rattle.bfv_params.specs.Values.{CipherValue}
 use Rattle.bfv_linear.proofs.Operands.{in_cipher, lent_from, lent_length, lent_reduced, made_alone, row_fits}
 use Rattle.bfv_linear.proofs.OneRow.{copied_row, alone_reduced, alone_represents, from_alone_reduced, one_long}
-use Rattle.bfv_linear.proofs.Operations.{HoldsIn-plain_sum, scaled_polynomial}
+use Rattle.bfv_linear.specs.Parts.{scaled_polynomial}
+use Rattle.bfv_linear.proofs.Operations.{HoldsIn-plain_sum, parts_at_first}
 use Rattle.bfv_linear.proofs.Results.{becomes_copy, becomes_first}
 use Rattle.bfv_linear.proofs.Written.{WrittenTo-set}
 use Rattle.bfv_linear.proofs.plaintexts.add_plain.Goals as goal
@@ -125,11 +126,15 @@ loop-i-preserved g c =
           })
     ]
 
-pub returns-clause-sum : goal.returns-clause-sum
-returns-clause-sum g c = λ s m bound h.
+pub returns-clause-words : goal.returns-clause-words
+returns-clause-words g c = λ x of_a.
     let moduli : List ℕ = c.data_moduli-moduli.result.now in
     let first : CipherValue = c.set_parts.new.self in
     let parts : first.parts ≡ c.args.a.now.parts = c.set_parts.ensures.parts ∙ c.parts-parts.ensures.value in
     let rows : first.parts * length moduli ≡ c.parts-parts.result * length moduli = ap (λ (p : ℕ). p * length moduli) c.set_parts.ensures.parts in
-    HoldsIn-plain_sum g.row.N c.args.ctx.now moduli c.args.a.now first c.loop-i.out c.loop-i.i c.loop-i.invariant.operand c.loop-i.invariant.over
-    (omega arith) (omega arith) (slice_index c.args.plain.now) c.loop-i.invariant.written h
+    parts_at_first g.row.N c.args.ctx.now moduli c.args.a.now first c.loop-i.out c.loop-i.i c.loop-i.invariant.operand c.loop-i.invariant.over
+    (omega arith) (omega arith) (λ y. ring_sum y (scaled_polynomial c.args.ctx.now (slice_index c.args.plain.now))) c.loop-i.invariant.written x of_a
+
+pub returns-clause-sum : goal.returns-clause-sum
+returns-clause-sum g c = λ s m bound h.
+    HoldsIn-plain_sum g.row.N c.args.ctx.now c.loop-i.invariant.operand.degree_is c.args.a.now c.loop-i.out (slice_index c.args.plain.now) (returns-clause-words g c) h

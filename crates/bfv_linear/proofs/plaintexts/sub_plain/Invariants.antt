@@ -1,8 +1,8 @@
 use Rattle.std.proofs.Common.{◌≡◌, length, get_or}
 use Rattle.ring_law.specs.Polynomials.{ring_negative, ring_sum}
 use Rattle.bfv_linear.proofs.Operands.{IsOperand}
-use Rattle.bfv_linear.proofs.Operations.{scaled_polynomial}
-use Rattle.bfv_linear.proofs.Results.{Becomes, at_first_part}
+use Rattle.bfv_linear.specs.Parts.{at_first_part, scaled_polynomial}
+use Rattle.bfv_linear.proofs.Results.{Becomes}
 use Rattle.bfv_linear.proofs.Written.{WrittenTo}
 use Rattle.bfv_linear.proofs.plaintexts.sub_plain.Given as goal
 

@@ -7,7 +7,7 @@ use Rattle.bfv_params.specs.Values.{CipherValue}
 use Rattle.bfv_linear.proofs.CentredResidues.{residue_of_multiple}
 use Rattle.bfv_linear.proofs.Operands.{in_cipher, place_in_list}
 use Rattle.bfv_linear.proofs.OneRow.{alone_reduced, alone_represents, copied_row, from_alone, one_long}
-use Rattle.bfv_linear.proofs.Operations.{HoldsIn-multiple}
+use Rattle.bfv_linear.proofs.Operations.{HoldsIn-multiple, parts_multiple}
 use Rattle.bfv_linear.proofs.Written.{WrittenTo-set}
 use Rattle.bfv_linear.proofs.products.mul_const.Goals as goal
 
@@ -75,11 +75,15 @@ loop-i-preserved g c =
           c.loop-i.invariant.written;
     }
 
-pub returns-clause-multiple : goal.returns-clause-multiple
-returns-clause-multiple g c = λ s m bound h.
+pub returns-clause-words : goal.returns-clause-words
+returns-clause-words g c = λ x of_a.
     let moduli : List ℕ = c.data_moduli-moduli.result.now in
     let first : CipherValue = c.set_parts.new.self in
     let parts : first.parts ≡ c.args.a.now.parts = c.set_parts.ensures.parts ∙ c.parts-parts.ensures.value in
     let rows : first.parts * length moduli ≡ c.parts-parts.result * length moduli = ap (λ (p : ℕ). p * length moduli) c.set_parts.ensures.parts in
-    HoldsIn-multiple g.row.N c.args.ctx.now moduli c.args.a.now first c.loop-i.out c.loop-i.i c.loop-i.invariant.operand c.loop-i.invariant.over
-    (omega arith) (omega arith) c.args.k c.loop-i.invariant.written h
+    parts_multiple g.row.N c.args.ctx.now moduli c.args.a.now first c.loop-i.out c.loop-i.i c.loop-i.invariant.operand c.loop-i.invariant.over
+    (omega arith) (omega arith) (centred_residue (plain_of c.args.ctx.now.set) (pos c.args.k)) c.loop-i.invariant.written x of_a
+
+pub returns-clause-multiple : goal.returns-clause-multiple
+returns-clause-multiple g c = λ s m bound h.
+    HoldsIn-multiple g.row.N c.args.ctx.now c.loop-i.invariant.operand.degree_is c.args.a.now c.loop-i.out c.args.k (returns-clause-words g c) h

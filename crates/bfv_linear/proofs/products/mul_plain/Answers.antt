@@ -10,6 +10,7 @@ use Rattle.bfv_params.specs.Transforms.{transform_of}
 use Rattle.bfv_params.proofs.Parts.{moduli_of_transforms}
 use Rattle.bfv_params.proofs.Tables.{degree_of-limit}
 use Rattle.bfv_linear.specs.Plaintexts.{centred_plain}
+use Rattle.bfv_linear.proofs.Operations.{HoldsIn-product}
 use Rattle.bfv_linear.proofs.products.mul_plain.Goals as goal
 
 pub set_centred-requires : goal.set_centred-requires
@@ -44,8 +45,8 @@ forward_all-requires g c =
     let same : moduli_of transforms ≡ moduli = ap moduli_of c.data_transforms.ensures.value ∙ moduli_of_transforms set (data_at set c.args.ctx.now.level) ∙ sym listed in
     (lit< tt, (omega (arith, degree), (degree, (factors ∙ sym count, subst (λ ms. AreReduced n ms c.set_centred.new.out) (sym same) c.set_centred.ensures.reduced))))
 
-pub returns-clause-product : goal.returns-clause-product
-returns-clause-product g c = λ s m bound h.
+pub returns-clause-words : goal.returns-clause-words
+returns-clause-words g c = λ x of_a.
     let n : ℕ = g.row.N in
     let set = c.args.ctx.now.set in
     let moduli : List ℕ = c.data_moduli-moduli.result.now in
@@ -58,5 +59,8 @@ returns-clause-product g c = λ s m bound h.
     subst (λ t. EachRepresents n moduli c.set_centred.new.out (λ i. centred_plain t (slice_index c.args.plain.now))) plain c.set_centred.ensures.represents in
     let turned : AreTransforms transforms c.forward_all.new.rows (λ i. factor) =
     c.forward_all.ensures.transforms (λ i. factor) (subst (λ ms. EachRepresents n ms c.set_centred.new.out (λ i. factor)) (sym same) centred) in
-    c.multiply_rows.ensures.product (slice_index c.args.plain.now)
-    (subst (λ ts. AreTransforms ts c.forward_all.new.rows (λ i. factor)) c.data_transforms.ensures.value turned) s m bound h
+    c.multiply_rows.ensures.words factor (subst (λ ts. AreTransforms ts c.forward_all.new.rows (λ i. factor)) c.data_transforms.ensures.value turned) x of_a
+
+pub returns-clause-product : goal.returns-clause-product
+returns-clause-product g c = λ s m bound h.
+    HoldsIn-product g.row.N c.args.ctx.now c.data_moduli-moduli.ensures.degree c.args.a.now c.multiply_rows.new.out (slice_index c.args.plain.now) (returns-clause-words g c) h

@@ -3,14 +3,12 @@ use Rattle.ring_law.specs.Polynomials.{ring_product}
 use Rattle.ring_law.specs.Residues.{residue}
 use Rattle.ring_law.specs.Rows.{IsReduced, RowRepresents}
 use Rattle.neg_ntt.specs.Parameters.{IsTransformBy, Parameters}
-use Rattle.set_table.specs.Sets.{plain_of}
 use Rattle.bfv_params.specs.Moduli.{data_at}
 use Rattle.bfv_params.specs.Transforms.{transform_of}
 use Rattle.bfv_params.specs.Values.{CipherValue}
-use Rattle.bfv_linear.specs.Plaintexts.{centred_plain}
 use Rattle.bfv_linear.proofs.Operands.{in_cipher, place_in_list}
 use Rattle.bfv_linear.proofs.OneRow.{copied_row, one_at, one_long}
-use Rattle.bfv_linear.proofs.Operations.{HoldsIn-product}
+use Rattle.bfv_linear.proofs.Operations.{parts_product}
 use Rattle.bfv_linear.proofs.TransformedProducts.{factor_at, transform_at}
 use Rattle.bfv_linear.proofs.Written.{WrittenTo-map, WrittenTo-set}
 use Rattle.bfv_linear.proofs.products.multiply_rows.Goals as goal
@@ -103,13 +101,13 @@ loop-i-preserved g c =
           c.loop-i.invariant.written;
     }
 
-pub returns-clause-product : goal.returns-clause-product
-returns-clause-product g c = λ plain all s m bound h.
+pub returns-clause-words : goal.returns-clause-words
+returns-clause-words g c = λ y all x of_a.
     let ctx = c.args.ctx.now in
     let moduli : List ℕ = data_at ctx.set ctx.level in
     let first : CipherValue = c.set_parts.new.self in
     let parts : first.parts ≡ c.args.a.now.parts = c.set_parts.ensures.parts ∙ c.parts-parts.ensures.value in
     let rows : first.parts * length moduli ≡ c.parts-parts.result * length c.data_moduli-moduli.result.now =
     ap (λ (p : ℕ). p * length moduli) c.set_parts.ensures.parts ∙ ap (λ (m : ℕ). c.parts-parts.result * m) (sym c.loop-i.invariant.level) in
-    HoldsIn-product g.row.N ctx moduli c.args.a.now first c.loop-i.out c.loop-i.i c.loop-i.invariant.operand c.loop-i.invariant.over (omega arith) (omega arith) plain
-    (WrittenTo-map first _ _ c.loop-i.i c.loop-i.out (λ i row less becomes. becomes (centred_plain (plain_of ctx.set) plain) all) c.loop-i.invariant.written) h
+    parts_product g.row.N ctx moduli c.args.a.now first c.loop-i.out c.loop-i.i c.loop-i.invariant.operand c.loop-i.invariant.over (omega arith) (omega arith) y
+    (WrittenTo-map first _ _ c.loop-i.i c.loop-i.out (λ i row less becomes. becomes y all) c.loop-i.invariant.written) x of_a

@@ -3,7 +3,7 @@ use Rattle.ring_law.specs.Polynomials.{ring_negative}
 use Rattle.bfv_params.specs.Values.{CipherValue}
 use Rattle.bfv_linear.proofs.Operands.{in_cipher, lent_from, lent_length, lent_reduced, made_alone, place_in_list}
 use Rattle.bfv_linear.proofs.OneRow.{one_long}
-use Rattle.bfv_linear.proofs.Operations.{HoldsIn-negative}
+use Rattle.bfv_linear.proofs.Operations.{HoldsIn-negative, parts_negative}
 use Rattle.bfv_linear.proofs.Written.{WrittenTo-set}
 use Rattle.bfv_linear.proofs.sums.neg.Goals as goal
 
@@ -52,11 +52,15 @@ loop-i-preserved g c =
           c.loop-i.invariant.written;
     }
 
-pub returns-clause-negative : goal.returns-clause-negative
-returns-clause-negative g c = λ s m bound h.
+pub returns-clause-words : goal.returns-clause-words
+returns-clause-words g c = λ x of_a.
     let moduli : List ℕ = c.data_moduli-moduli.result.now in
     let first : CipherValue = c.set_parts.new.self in
     let parts : first.parts ≡ c.args.a.now.parts = c.set_parts.ensures.parts ∙ c.parts-parts.ensures.value in
     let rows : first.parts * length moduli ≡ c.parts-parts.result * length moduli = ap (λ (p : ℕ). p * length moduli) c.set_parts.ensures.parts in
-    HoldsIn-negative g.row.N c.args.ctx.now moduli c.args.a.now first c.loop-i.out c.loop-i.i c.loop-i.invariant.operand c.loop-i.invariant.over
-    (omega arith) (omega arith) c.loop-i.invariant.written h
+    parts_negative g.row.N c.args.ctx.now moduli c.args.a.now first c.loop-i.out c.loop-i.i c.loop-i.invariant.operand c.loop-i.invariant.over
+    (omega arith) (omega arith) c.loop-i.invariant.written x of_a
+
+pub returns-clause-negative : goal.returns-clause-negative
+returns-clause-negative g c = λ s m bound h.
+    HoldsIn-negative g.row.N c.args.ctx.now c.loop-i.invariant.operand.degree_is c.args.a.now c.loop-i.out (returns-clause-words g c) h

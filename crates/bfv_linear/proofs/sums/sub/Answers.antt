@@ -3,7 +3,7 @@ use Rattle.ring_law.specs.Polynomials.{ring_negative, ring_sum}
 use Rattle.bfv_params.specs.Values.{CipherValue}
 use Rattle.bfv_linear.proofs.Operands.{in_cipher, lent_from, lent_length, lent_reduced, made_alone_of_two, place_in_list}
 use Rattle.bfv_linear.proofs.OneRow.{one_long}
-use Rattle.bfv_linear.proofs.Operations.{HoldsIn-difference}
+use Rattle.bfv_linear.proofs.Operations.{HoldsIn-difference, parts_difference}
 use Rattle.bfv_linear.proofs.Written.{WrittenTo-set}
 use Rattle.bfv_linear.proofs.sums.sub.Goals as goal
 
@@ -67,12 +67,16 @@ loop-i-preserved g c =
           c.loop-i.invariant.written;
     }
 
-pub returns-clause-difference : goal.returns-clause-difference
-returns-clause-difference g c = λ s m other bound more h held.
+pub returns-clause-words : goal.returns-clause-words
+returns-clause-words g c = λ x y of_a of_b.
     let moduli : List ℕ = c.data_moduli-moduli.result.now in
     let first : CipherValue = c.set_parts.new.self in
     let parts = c.set_parts.ensures.parts in
     let most = c.max-parts.ensures in
     let rows : first.parts * length moduli ≡ c.max-parts.result * length moduli = ap (λ (p : ℕ). p * length moduli) parts in
-    HoldsIn-difference g.row.N c.args.ctx.now moduli c.args.a.now first c.loop-i.out c.loop-i.i c.loop-i.invariant.operand c.loop-i.invariant.over
-    (omega arith) (omega arith) c.args.b.now c.loop-i.invariant.second (omega arith) c.loop-i.invariant.written h held
+    parts_difference g.row.N c.args.ctx.now moduli c.args.a.now first c.loop-i.out c.loop-i.i c.loop-i.invariant.operand c.loop-i.invariant.over
+    (omega arith) (omega arith) c.args.b.now c.loop-i.invariant.second (omega arith) c.loop-i.invariant.written x y of_a of_b
+
+pub returns-clause-difference : goal.returns-clause-difference
+returns-clause-difference g c = λ s m other bound more h held.
+    HoldsIn-difference g.row.N c.args.ctx.now c.loop-i.invariant.operand.degree_is c.args.a.now c.loop-i.out c.args.b.now (returns-clause-words g c) h held
