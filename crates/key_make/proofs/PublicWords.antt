@@ -7,7 +7,7 @@ use Rattle.ring_law.specs.Polynomials.{ring_negative, ring_product, ring_sum}
 use Rattle.ring_law.specs.Rows.{listed_polynomial, word_at}
 use Rattle.ring_law.proofs.Moduli.{PairwiseInvertible}
 use Rattle.rns_poly.specs.Rows.{EachRepresents}
-use Rattle.bfv_model.specs.Drawn.{drawn_error, drawn_mask, drawn_public}
+use Rattle.bfv_model.specs.Drawn.{drawn_error, drawn_mask, drawn_public, greatest_error}
 use Rattle.bfv_model.specs.Holds.{listed_word}
 use Rattle.bfv_model.specs.Keys.{WordsArePublicKeyOf}
 use Rattle.bfv_model.proofs.KeyRows.{drawn_public-WordsArePublicKeyOf}
@@ -43,9 +43,9 @@ module _ (n : ℕ) (moduli : List ℕ) (s : ℕ → ℤ) (words : ℕ → ℕ) (
 
 -- words that are those of a drawn public key are a public key of its secret
 pub drawn_words-WordsArePublicKeyOf : (n : ℕ) (moduli : List ℕ) (s : ℕ → ℤ) (words : ℕ → ℕ) (word : ℕ → ℕ → ℕ → ℕ) → PairwiseInvertible moduli → AllAboveOne moduli
-    → ((part i k : ℕ) → part < 2 → i < length moduli → k < n → word part i k ≡ drawn_public n moduli s words part i k) → WordsArePublicKeyOf n moduli 21 word s
+    → ((part i k : ℕ) → part < 2 → i < length moduli → k < n → word part i k ≡ drawn_public n moduli s words part i k) → WordsArePublicKeyOf n moduli greatest_error word s
 drawn_words-WordsArePublicKeyOf n moduli s words word coprime big same =
-    let key : WordsArePublicKeyOf n moduli 21 (drawn_public n moduli s words) s = drawn_public-WordsArePublicKeyOf n moduli s words coprime big in record {
+    let key : WordsArePublicKeyOf n moduli greatest_error (drawn_public n moduli s words) s = drawn_public-WordsArePublicKeyOf n moduli s words coprime big in record {
       part = key.part;
       represents = λ j in_key i k within below. same j i k in_key within below ∙ key.represents j in_key i k within below;
       relation = key.relation;

@@ -3,7 +3,6 @@
 //! Each call takes the generator's next words of 64 bits in their order, and no others.
 #![tactic(auto)]
 
-mod masking;
 mod public_key;
 mod secret_key;
 #[cfg(test)]
