@@ -19,7 +19,7 @@ pub const WORD_BYTES: usize = 8;
 pub const DIGEST_BYTES: usize = 32;
 
 /// How many words are read or written at a time.
-pub const PIECE_WORDS: usize = 512;
+pub const PIECE_WORDS: usize = 8192;
 
 pub const PIECE_BYTES: usize = WORD_BYTES * PIECE_WORDS;
 
