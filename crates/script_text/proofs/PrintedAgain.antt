@@ -16,13 +16,13 @@ use Rattle.script_text.proofs.PrintedSizes.{printed_is_lines, plain_lines, lengt
 use Rattle.script_text.proofs.PrintedCounts.{few_inputs, few_steps}
 
 -- the lines of the printed text
-printed_lines : (script : Script) → IsSound script → counted_lines (printed_script script) ≡ numbered_words 1 (script_lines script)
+pub printed_lines : (script : Script) → IsSound script → counted_lines (printed_script script) ≡ numbered_words 1 (script_lines script)
 printed_lines script sound =
     let some = length-script_lines script in
     ap counted_lines (printed_is_lines script) ∙ counted_printed (script_lines script) (plain_lines script sound) (omega (arith, some))
 
 -- three tests of which none holds
-none_holds : (a b c : Bool) → a ≡ false → b ≡ false → c ≡ false → a || b || c ≡ false
+pub none_holds : (a b c : Bool) → a ≡ false → b ≡ false → c ≡ false → a || b || c ≡ false
 none_holds a b c a_is b_is c_is = rw a_is (rw b_is c_is)
 
 printed_fits : (script : Script) → IsSound script → is_too_long (printed_script script) ≡ false

@@ -40,7 +40,7 @@ folds = record {
   more = λ n byte bytes is. let same : 10 * n + (byte - 48) ≡ n * 10 + (byte - 48) = omega arith in ap (λ (m : ℕ). number_after m bytes) same;
 }
 
-numerals : IsNumeralModel (λ digits. list_all is_ascii_digit digits ≡ true) (number_after 0)
+pub numerals : IsNumeralModel (λ digits. list_all is_ascii_digit digits ≡ true) (number_after 0)
 numerals = numerals_by_fold (λ digits. list_all is_ascii_digit digits ≡ true) tells_digits number_after folds
 
 -- a number in decimal is read as what it was

@@ -9,7 +9,7 @@ use Rattle.script_text.specs.Drafts.{Fails}
 use Rattle.script_text.specs.Grammar as grammar
 use Rattle.script_text.specs.Grammar.{Draft, after_line, after_lines}
 
-after_lines-append : (draft : Option Draft) (lines others : List Line) → after_lines draft (lines ++ others) ≡ followed (after_lines draft lines) (λ next. after_lines next others)
+pub after_lines-append : (draft : Option Draft) (lines others : List Line) → after_lines draft (lines ++ others) ≡ followed (after_lines draft lines) (λ next. after_lines next others)
 after_lines-append draft [] others = refl
 after_lines-append draft (line ∷ lines) others = by (λ next. after_lines-append (Some next) lines others) (after_line draft line)
   where

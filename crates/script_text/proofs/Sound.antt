@@ -107,7 +107,7 @@ step_kept draft next name equals keyword a words is kept =
       steps = rw counts (omega (arith, kept.steps));
     }
 
-next_line_kept : (draft : Draft) (at : ℕ) (words : List (List ℕ)) (next : Draft) → is_none draft.output ≡ true → DraftSound draft
+pub next_line_kept : (draft : Draft) (at : ℕ) (words : List (List ℕ)) (next : Draft) → is_none draft.output ≡ true → DraftSound draft
     → next_line draft at words ≡ Ok next → Kept draft next words
 unfolding next_line
 next_line_kept draft at [] next no_output sound given = absurd cc
@@ -149,7 +149,7 @@ lines_kept draft (line ∷ lines) end sound given =
     let steps = length-filter_cons (λ line. is_step_line line.words) line lines in
     (rest.0, rest.1, record { sound = rest.2.sound; inputs = omega (arith, rest.2.inputs, kept.inputs); steps = omega (arith, rest.2.steps, kept.steps) })
 
-empty_sound : (set : SetName) → DraftSound (record { set = set; inputs = []; steps = []; output = None })
+pub empty_sound : (set : SetName) → DraftSound (record { set = set; inputs = []; steps = []; output = None })
 empty_sound set = record { names = λ k d below. absurd (omega arith); distinct = λ i j d before below. absurd (omega arith); fit = tt; output = tt }
 
 set_line_given : (at : ℕ) (words : List (List ℕ)) (next : Draft) → set_line at words ≡ Ok next → (set : SetName) × (next ≡ record { set = set; inputs = []; steps = []; output = None })

@@ -7,3 +7,4 @@ pub mod Drafts
 pub mod Value
 pub mod Printed
 pub mod Evaluating
+pub mod Counted

@@ -17,7 +17,7 @@ mod words;
 
 pub use evaluator::evaluate;
 pub use faults::{ScriptFault, ScriptPlace, ValueFault, ValuePlace};
-pub use laws::law_of_printing;
+pub use laws::{law_of_faults, law_of_printing, law_of_reading};
 pub use parser::parse;
 pub use printer::print;
 pub use reading::read_values;
