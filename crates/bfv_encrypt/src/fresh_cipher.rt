@@ -1,33 +1,33 @@
 //! Fresh ciphertexts.
 
-ghost use Rattle.std.specs.Prelude.{◌≡◌, ℕ, ℤ, ◌+◌, ◌*◌, ◌<◌, ◌≤◌, length, map, slice_index};
-ghost use Rattle.set_table.specs.Sets.{aux_of, data_of, plain_of};
+ghost use Rattle.std.specs.Prelude.{◌≡◌, ℕ, ℤ, ◌*◌, ◌<◌, ◌≤◌, length, slice_index};
+ghost use Rattle.set_table.specs.Sets.{data_of, plain_of};
 ghost use Rattle.ring_law.specs.Moduli.{product};
 ghost use Rattle.ring_law.specs.Polynomials.{AllWithin, ring_product, ring_sum};
 ghost use Rattle.ring_law.specs.Rows.{IsReduced, listed_polynomial, natural_polynomial};
 ghost use Rattle.rns_poly.specs.Rows.{AreReduced, EachRepresents};
 ghost use Rattle.rns_poly.specs.Transforms.{AreTransforms};
 ghost use Rattle.rand_words.specs.Words.{after_words};
-ghost use Rattle.bfv_model.specs.Drawn.{drawn_cipher, stream_word};
-ghost use Rattle.bfv_model.specs.Holds.{CipherHolds, listed_word};
+ghost use Rattle.bfv_model.specs.Drawn.{drawn_cipher, greatest_error, greatest_ternary, stream_word};
+ghost use Rattle.bfv_model.specs.Holds.{listed_word};
 ghost use Rattle.bfv_model.specs.Keys.{WordsArePublicKeyOf};
-ghost use Rattle.bfv_model.specs.NoiseBounds.{fresh_bound};
+ghost use Rattle.bfv_model.specs.NoiseBounds.{fresh_bound, fresh_bound_under};
 ghost use Rattle.bfv_model.specs.Plaintexts.{scaled_plain};
-ghost use Rattle.bfv_params.specs.Moduli.{data_at};
-ghost use Rattle.bfv_params.specs.Transforms.{transform_of};
-ghost use Rattle.bfv_params.specs.Rows.{ArePartlyWritten};
+ghost use Rattle.bfv_params.specs.Ciphers.{HoldsIn};
+ghost use Rattle.bfv_params.specs.Contexts.{data_in, modulus_in, scratch_rows_in, transforms_in};
 
-use bfv_params::{Cipher, Context, Public};
+use bfv_params::{Cipher, Context, Public, product_into, transform_into, transform_small_into};
 use rand_core::Rng;
 use rand_words::{error_row, ternary_row};
-use rns_poly::{
-    PolyBuf, View, ViewMut, add_into, forward_all, inverse_all, pointwise_into, set_small, split,
-};
+use rns_poly::{PolyBuf, View, ViewMut, add_into, set_small, split};
 
 /// Encrypts a plaintext m, whose N coefficients are below the plaintext modulus t, under a public
 /// key (p0, p1): the two parts are `p0 * u + e1` with the scaled plaintext, and `p1 * u + e2`,
 /// modulo the product of all data moduli. One word for each coefficient of the ternary u is drawn
 /// first, and then one for each of the error e1 and one for each of the error e2.
+///
+/// The cipher holds m under every secret of the key, within a bound that the key's error and the
+/// secret's size give: under a ternary secret of a drawn key it is the fresh bound.
 pub fn encrypt<const N: usize, R: Rng>(
     ctx: &Context<N>,
     public: &Public<N>,
@@ -41,7 +41,7 @@ pub fn encrypt<const N: usize, R: Rng>(
     requires plain { IsReduced N (plain_of (ctx.now).set) plain.now }
     requires out_set { (out.old).set ≡ (ctx.now).set }
     requires out_level { (out.old).level ≡ (ctx.now).level }
-    requires scratch { length scratch.old ≡ 8 * ((ctx.now).level + length (aux_of (ctx.now).set) + 2) }
+    requires scratch { length scratch.old ≡ scratch_rows_in (ctx.now) }
     ensures set { (out.new).set ≡ (out.old).set }
     ensures room { (out.new).room ≡ (out.old).room }
     ensures level { (out.new).level ≡ (out.old).level }
@@ -51,15 +51,17 @@ pub fn encrypt<const N: usize, R: Rng>(
         ≡ drawn_cipher N (data_of (ctx.now).set) (product (data_of (ctx.now).set)) (plain_of (ctx.now).set)
         (listed_word (length (data_of (ctx.now).set)) (public.now).rows) (slice_index plain.now)
         (stream_word (R.stream rng.old)) part i k }
-    ensures holds { (s : ℕ → ℤ) → AllWithin N 1 s
-        → WordsArePublicKeyOf N (data_of (ctx.now).set) 21 (listed_word (length (data_of (ctx.now).set)) (public.now).rows) s
-        → CipherHolds N (data_of (ctx.now).set) (plain_of (ctx.now).set)
-        (listed_word (length (data_of (ctx.now).set)) (out.new).rows) s (slice_index plain.now)
-        (fresh_bound N (plain_of (ctx.now).set) 21) }
+    ensures holds { (key_error size : ℕ) (s : ℕ → ℤ) → AllWithin N size s
+        → WordsArePublicKeyOf N (data_of (ctx.now).set) key_error (listed_word (length (data_of (ctx.now).set)) (public.now).rows) s
+        → HoldsIn N (ctx.now) (out.new) s (slice_index plain.now)
+        (fresh_bound_under N (plain_of (ctx.now).set) greatest_error key_error size) }
+    ensures ternary { (s : ℕ → ℤ) → AllWithin N greatest_ternary s
+        → WordsArePublicKeyOf N (data_of (ctx.now).set) greatest_error (listed_word (length (data_of (ctx.now).set)) (public.now).rows) s
+        → HoldsIn N (ctx.now) (out.new) s (slice_index plain.now) (fresh_bound N (plain_of (ctx.now).set) greatest_error) }
     ensures rest { R.stream rng.new ≡ after_words (3 * N) (R.stream rng.old) }
     ensures scratch { length scratch.new ≡ length scratch.old }
 {
-    let _set = ctx.set();
+    let count = ctx.data_moduli().len();
     let mut mask = [0; N];
     ternary_row(rng, &mut mask);
     let mut error_first = [0; N];
@@ -67,16 +69,12 @@ pub fn encrypt<const N: usize, R: Rng>(
     let mut error_second = [0; N];
     error_row(rng, &mut error_second);
 
-    let moduli = ctx.data_moduli();
-    let count = moduli.len();
     let (factor, work) = split(scratch.view_mut(), count);
-    set_small(moduli, &mask, &mut *factor);
-    forward_all(ctx.data_transforms(), &mut *factor);
+    transform_small_into(ctx, &mask, &mut *factor);
     let factor = View { rows: factor };
-    let key = public.view();
     let (part, work) = split(work, count);
     out.set_parts(2);
-    let first = key.rows_from_to(0, count);
+    let first = public.part(0);
     plain_part(
         ctx,
         first,
@@ -86,10 +84,10 @@ pub fn encrypt<const N: usize, R: Rng>(
         &mut *part,
         &mut *work,
     );
-    set_part(out, 0, View { rows: part });
-    let second = key.rows_from_to(count, 2 * count);
+    out.set_part(0, View { rows: part });
+    let second = public.part(1);
     masked_part(ctx, second, factor, &error_second, &mut *part, work);
-    set_part(out, 1, View { rows: part });
+    out.set_part(1, View { rows: part });
 }
 
 /// Writes the rows of `p * u + e` with the scaled plaintext, of u the transforms being given.
@@ -106,17 +104,16 @@ fn plain_part<const N: usize>(
     requires mask_length { length mask.rows.now ≡ (ctx.now).level }
     requires out_length { length out.old ≡ (ctx.now).level }
     requires work_length { 4 * (ctx.now).level ≤ length work.old }
-    requires key_reduced { AreReduced N (data_at (ctx.now).set (ctx.now).level) key.rows.now }
-    requires mask_reduced { AreReduced N (data_at (ctx.now).set (ctx.now).level) mask.rows.now }
+    requires key_reduced { AreReduced N (data_in (ctx.now)) key.rows.now }
+    requires mask_reduced { AreReduced N (data_in (ctx.now)) mask.rows.now }
     requires plain { IsReduced N (plain_of (ctx.now).set) plain.now }
-    ensures represents { (p u : ℕ → ℕ → ℤ) → EachRepresents N (data_at (ctx.now).set (ctx.now).level) key.entry.rows.now p
-        → AreTransforms (map (transform_of (ctx.now).set) (data_at (ctx.now).set (ctx.now).level)) mask.entry.rows.now u
-        → EachRepresents N (data_at (ctx.now).set (ctx.now).level) out.new
+    ensures represents { (p u : ℕ → ℕ → ℤ) → EachRepresents N (data_in (ctx.now)) key.entry.rows.now p
+        → AreTransforms (transforms_in (ctx.now)) mask.entry.rows.now u
+        → EachRepresents N (data_in (ctx.now)) out.new
         (λ i. ring_sum (ring_sum (ring_product N (p i) (u i)) (listed_polynomial error.now))
-        (natural_polynomial (λ k. scaled_plain (product (data_at (ctx.now).set (ctx.now).level)) (plain_of (ctx.now).set) (slice_index plain.now k)))) }
-    ensures reduced { AreReduced N (data_at (ctx.now).set (ctx.now).level) out.new }
+        (natural_polynomial (λ k. scaled_plain (modulus_in (ctx.now)) (plain_of (ctx.now).set) (slice_index plain.now k)))) }
+    ensures reduced { AreReduced N (data_in (ctx.now)) out.new }
 {
-    let _set = ctx.set();
     let moduli = ctx.data_moduli();
     let (masked, work) = split(work, moduli.len());
     masked_part(ctx, key, mask, error, &mut *masked, &mut *work);
@@ -138,42 +135,19 @@ fn masked_part<const N: usize>(
     requires mask_length { length mask.rows.now ≡ (ctx.now).level }
     requires out_length { length out.old ≡ (ctx.now).level }
     requires work_length { 2 * (ctx.now).level ≤ length work.old }
-    requires key_reduced { AreReduced N (data_at (ctx.now).set (ctx.now).level) key.rows.now }
-    requires mask_reduced { AreReduced N (data_at (ctx.now).set (ctx.now).level) mask.rows.now }
-    ensures represents { (p u : ℕ → ℕ → ℤ) → EachRepresents N (data_at (ctx.now).set (ctx.now).level) key.entry.rows.now p
-        → AreTransforms (map (transform_of (ctx.now).set) (data_at (ctx.now).set (ctx.now).level)) mask.entry.rows.now u
-        → EachRepresents N (data_at (ctx.now).set (ctx.now).level) out.new
+    requires key_reduced { AreReduced N (data_in (ctx.now)) key.rows.now }
+    requires mask_reduced { AreReduced N (data_in (ctx.now)) mask.rows.now }
+    ensures represents { (p u : ℕ → ℕ → ℤ) → EachRepresents N (data_in (ctx.now)) key.entry.rows.now p
+        → AreTransforms (transforms_in (ctx.now)) mask.entry.rows.now u
+        → EachRepresents N (data_in (ctx.now)) out.new
         (λ i. ring_sum (ring_product N (p i) (u i)) (listed_polynomial error.now)) }
-    ensures reduced { AreReduced N (data_at (ctx.now).set (ctx.now).level) out.new }
+    ensures reduced { AreReduced N (data_in (ctx.now)) out.new }
 {
-    let _set = ctx.set();
     let moduli = ctx.data_moduli();
-    let transforms = ctx.data_transforms();
     let (rows, work) = split(work, moduli.len());
-    rows.copy_from_slice(key.slice());
-    forward_all(transforms, &mut *rows);
+    transform_into(ctx, key, &mut *rows);
     let (product, _) = split(work, moduli.len());
-    pointwise_into(moduli, View { rows }, mask, &mut *product);
-    inverse_all(transforms, &mut *product);
+    product_into(ctx, View { rows: &*rows }, mask, &mut *product);
     set_small(moduli, error, &mut *rows);
     add_into(moduli, View { rows: product }, View { rows }, out);
-}
-
-/// Writes the rows of a part.
-fn set_part<const N: usize>(cipher: &mut Cipher<N>, part: usize, rows: View<'_, N>)
-    requires part { part < (cipher.old).parts }
-    requires count { length rows.rows.now ≡ (cipher.old).level }
-    requires reduced { AreReduced N (data_at (cipher.old).set (cipher.old).level) rows.rows.now }
-    ensures set { (cipher.new).set ≡ (cipher.old).set }
-    ensures room { (cipher.new).room ≡ (cipher.old).room }
-    ensures level { (cipher.new).level ≡ (cipher.old).level }
-    ensures parts { (cipher.new).parts ≡ (cipher.old).parts }
-    ensures written { ArePartlyWritten (part * (cipher.old).level) (cipher.old).level
-        rows.entry.rows.now (cipher.old).rows (cipher.new).rows }
-{
-    let _kept = cipher.view();
-    let start = part * rows.rows();
-    for i in 0..rows.rows() {
-        cipher.set_row(start + i, rows.row(i));
-    }
 }
