@@ -2,41 +2,14 @@ use Rattle.std.proofs.Common.{◌≡◌, ◌%◌, ◌<◌, ◌*◌, ◌∙◌, �
 use Rattle.std.proofs.lemmas.List.{get_or_default}
 use Rattle.set_table.specs.Sets.{plain_of}
 use Rattle.ring_law.specs.Residues.{centred_residue, residue}
-use Rattle.ring_law.specs.Rows.{IsReduced, RowRepresents}
+use Rattle.ring_law.specs.Rows.{RowRepresents}
 use Rattle.bfv_params.specs.Values.{CipherValue}
 use Rattle.bfv_linear.proofs.CentredResidues.{residue_of_multiple}
 use Rattle.bfv_linear.proofs.Operands.{in_cipher, place_in_list}
-use Rattle.bfv_linear.proofs.OneRow.{alone_reduced, alone_represents, copied_row, from_alone, one_long}
+use Rattle.bfv_linear.proofs.OneRow.{alone_represents, copied_row, from_alone}
 use Rattle.bfv_linear.proofs.Operations.{HoldsIn-multiple, parts_multiple}
 use Rattle.bfv_linear.proofs.Written.{WrittenTo-set}
 use Rattle.bfv_linear.proofs.products.mul_const.Goals as goal
-
-pub scale_each-requires : goal.scale_each-requires
-scale_each-requires g c =
-    let n : ℕ = g.row.N in
-    let ctx = c.args.ctx.now in
-    let moduli : List ℕ = c.data_moduli-moduli.result.now in
-    let a : CipherValue = c.args.a.now in
-    let i : ℕ = c.loop-i.i in
-    let p : ℕ = i % length moduli in
-    let known = c.loop-i.invariant.operand in
-    let in_list : p < length moduli = place_in_list n ctx moduli a i known in
-    let within : i < 3 * length moduli = in_cipher n ctx moduli c.set_parts.new.self i c.parts-parts.result c.loop-i.invariant.over c.set_parts.ensures.parts c.loop-i-test.true in
-    let one = c.loop-i.invariant.one in
-    let copied : get_or a.rows i [] ≡ get_or (slice_set c.loop-i.row 0 c.row.result.now) 0 [] =
-    copied_row c.view.result.rows.now a.rows i c.row.result.now c.view.ensures.value c.row.ensures ∙ sym (get_or-set_same c.loop-i.row 0 c.row.result.now [] (omega arith)) in (
-      omega (arith, known.degree),
-      (
-        known.degree,
-        (
-          sym (one_long moduli p in_list),
-          (
-            length-set c.loop-i.row 0 c.row.result.now ∙ one ∙ sym (one_long moduli p in_list),
-            alone_reduced n p moduli (slice_set c.loop-i.row 0 c.row.result.now) in_list (subst (IsReduced n (slice_index moduli p)) copied (known.reduced i (omega (arith, known.size)))),
-          ),
-        ),
-      ),
-    )
 
 pub loop-i-preserved : goal.loop-i-preserved
 loop-i-preserved g c =
