@@ -6,7 +6,7 @@ use Rattle.ring_law.specs.Sums.{values_below}
 use Rattle.ring_law.specs.Residues.{residue}
 use Rattle.ring_law.specs.Moduli.{AllAboveOne, product}
 use Rattle.ring_law.specs.Polynomials.{AllWithin, ring_product, ring_sum}
-use Rattle.ring_law.specs.Rows.{Represents, listed_polynomial, natural_polynomial, word_at}
+use Rattle.ring_law.specs.Rows.{listed_polynomial, natural_polynomial, word_at}
 use Rattle.ring_law.proofs.Moduli.{PairwiseInvertible}
 use Rattle.ring_law.proofs.RingProduct.{ring_product_ext}
 use Rattle.ring_law.proofs.Values.{get_or-values_below}

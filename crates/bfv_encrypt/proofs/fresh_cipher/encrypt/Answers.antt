@@ -1,12 +1,11 @@
-use Rattle.std.proofs.Common.{◌≡◌, ℕ, ℤ, ◌+◌, ◌*◌, ◌<◌, ◌∙◌, refl, sym, subst, ap, ap₂, arith, List, length, map, take, slice_index, pos}
-use Rattle.std.specs.List.{slice_range}
+use Rattle.std.proofs.Common.{◌≡◌, ℕ, ℤ, ◌+◌, ◌*◌, ◌<◌, ◌∙◌, subst, ap, ap₂, arith, List, length, map, take, slice_index, pos}
 use Rattle.std.proofs.Math.Seq.{take-length}
 use Rattle.rand_core.specs.Stream.{Stream}
 use Rattle.set_table.specs.declared.SetName.{SetName}
 use Rattle.set_table.specs.Sets.{data_of, plain_of}
 use Rattle.ring_law.specs.Moduli.{product}
 use Rattle.ring_law.specs.Polynomials.{ring_product, ring_sum}
-use Rattle.ring_law.specs.Rows.{Represents, listed_polynomial, natural_polynomial}
+use Rattle.ring_law.specs.Rows.{listed_polynomial, natural_polynomial}
 use Rattle.ring_law.proofs.Moduli.{PairwiseInvertible-from_coprime}
 use Rattle.rns_poly.specs.Rows.{EachRepresents}
 use Rattle.rns_poly.specs.Transforms.{AreTransforms}
@@ -18,10 +17,8 @@ use Rattle.bfv_model.specs.NoiseBounds.{fresh_bound_under}
 use Rattle.bfv_model.specs.Plaintexts.{scaled_plain}
 use Rattle.bfv_model.proofs.FreshNoise.{fresh_bound-ternary}
 use Rattle.bfv_params.specs.Ciphers.{HoldsIn}
-use Rattle.bfv_params.specs.Kept.{IsPublic}
 use Rattle.bfv_params.specs.Moduli.{data_at}
 use Rattle.bfv_params.specs.Transforms.{transform_of}
-use Rattle.bfv_params.proofs.Parts.{part_reduced}
 use Rattle.bfv_params.proofs.Products.{degree_of-least}
 use Rattle.bfv_params.specs.Rows.{ArePartlyWritten}
 use Rattle.rand_words.specs.Words.{after_words}
@@ -83,7 +80,7 @@ returns-clause-holds g c = λ K S s small is_key.
     let n : ℕ = g.row.N in
     let set = c.args.ctx.now.set in
     let base = IsBase-data_of set in
-    let pos_n : 0 < n = omega (arith, c.data_moduli.ensures.degree, degree_of-least set) in
+    let pos_n : 0 < n = omega (arith, c.data_moduli-count.ensures.degree, degree_of-least set) in
     let pos_t : 0 < plain_of set = omega (arith, c.requires.plain 0 pos_n) in
     CipherHolds-at_level n c.args.ctx.now.level (plain_of set) (data_of set) c.set_part-2.new.self.rows s (slice_index c.args.plain.now)
     (fresh_bound_under n (plain_of set) greatest_error K S) c.requires.level
