@@ -6,18 +6,16 @@ use Rattle.std.specs.Str.{bytes_eq}
 use Rattle.outer_io.specs.Store.{Files, file}
 use Rattle.set_table.specs.declared.SetName.{SetName}
 use Rattle.set_table.specs.declared.KeyKind.{KeyKind}
-use Rattle.set_table.specs.declared.KeyKind.TheVariants.{Relin, Turn}
-use Rattle.set_table.specs.Sets.{set_named, number_of, degree_of, plain_of, data_of, special_of, key_of}
-use Rattle.set_table.specs.Roots.{root_of}
+use Rattle.set_table.specs.Sets.{set_named, number_of, degree_of, plain_of, data_of, key_of}
 use Rattle.ring_law.specs.Sums.{values_below}
-use Rattle.ring_law.specs.Polynomials.{ring_product, ring_turn}
 use Rattle.bound_num.specs.Bound.{bound_value}
 use Rattle.bfv_model.specs.declared.file_kind.FileKind.{FileKind}
 use Rattle.bfv_model.specs.declared.file_kind.FileKind.TheVariants.{Secret, PublicKey, SwitchKey, Cipher}
 use Rattle.bfv_model.specs.FileText.{FileContent, IsFile}
 use Rattle.bfv_model.specs.Drawn.{drawn_key_id, drawn_secret, greatest_error}
 use Rattle.bfv_model.specs.Holds.{CipherHolds, stored_word, secret_polynomial}
-use Rattle.bfv_model.specs.Keys.{WordsArePublicKeyOf, WordsAreSwitchKeyOf, stored_key_word}
+use Rattle.bfv_model.specs.Keys.{WordsArePublicKeyOf, stored_key_word}
+use Rattle.bfv_model.specs.SwitchKeys.{IsSwitchKeyIn, key_source}
 use Rattle.ring_law.specs.Rows.{natural_polynomial}
 use Rattle.bfv_model.specs.Slots.{slots_of}
 use Rattle.script_text.specs.declared.faults.ValuePlace.{ValuePlace}
@@ -176,22 +174,11 @@ pub record IsPublicKeyFor (owner : Owner) (content : FileContent) : Type 0 where
   pub words : WordsArePublicKeyOf (degree_of owner.set) (data_of owner.set) greatest_error
       (stored_word (degree_of owner.set) (length (data_of owner.set)) content.words) (secret_polynomial owner.secret)
 
--- what a switching key switches from: s^2 for relinearisation, and s(X^element) for a turn
-abbrev pub key_source : KeyKind → ℕ → ℕ → (ℕ → ℤ) → ℕ → ℤ
-key_source Relin n element s = ring_product n s s
-key_source Turn n element s = ring_turn n element s
-
 -- the content is a switching key of this kind and element for the owner's secret
 pub record IsSwitchKeyFor (owner : Owner) (kind : KeyKind) (element : ℕ) (content : FileContent) : Type 0 where
   pub belongs : BelongsTo owner (SwitchKey kind) content
   pub of_element : content.element ≡ element
-  pub special : ℕ
-  pub is_special : special_of owner.set ≡ Some special
-  pub log_degree : ℕ
-  pub is_log : 2 ^ log_degree ≡ degree_of owner.set
-  pub words : WordsAreSwitchKeyOf log_degree (data_of owner.set) special
-      (map (λ q. unwrap_or (root_of owner.set q) 0) (key_of owner.set)) greatest_error
-      (stored_key_word (degree_of owner.set) (length (key_of owner.set)) content.words)
+  pub words : IsSwitchKeyIn owner.set (stored_key_word (degree_of owner.set) (length (key_of owner.set)) content.words)
       (key_source kind (degree_of owner.set) element (secret_polynomial owner.secret)) (secret_polynomial owner.secret)
 
 -- the content is a cipher that holds, under the owner's secret and within the bound that it states, the plaintext with these slots
