@@ -19,10 +19,12 @@ cat > src/main.rt <<'RATTLE'
 
 mod rows;
 
-ghost use Rattle.std.specs.Prelude.{◌≡◌, ◌+◌, ◌*◌, ◌≤◌, length, nat_abs, IfOk};
-ghost use Rattle.set_table.specs.Sets.{aux_of, degree_of};
+ghost use Rattle.std.specs.Prelude.{◌≡◌, ◌≤◌, length, nat_abs, IfOk};
+ghost use Rattle.set_table.specs.Sets.{degree_of};
 ghost use Rattle.ring_law.specs.Polynomials.{AllWithin};
 ghost use Rattle.ring_law.specs.Rows.{listed_polynomial};
+ghost use Rattle.bfv_params.specs.Contexts.{scratch_rows_in};
+ghost use Rattle.bfv_params.specs.Ciphers.{IsCipherOf};
 
 use crate::rows::{fill, report};
 use behz_decrypt::decrypt;
@@ -56,8 +58,7 @@ fn fill_small<const N: usize>(small: &mut [i8; N])
 }
 
 fn filled_cipher<const N: usize>(alloc: Global, ctx: &Context<N>) -> Result<Cipher<N>, AllocError>
-    ensures set { IfOk result (λ c. c.set ≡ (ctx.now).set) }
-    ensures level { IfOk result (λ c. c.level ≡ (ctx.now).level) }
+    ensures { IfOk result (IsCipherOf (ctx.now)) }
 {
     let moduli = ctx.data_moduli();
     let mut cipher = Cipher::<N>::new(alloc, ctx)?;
@@ -89,9 +90,8 @@ fn time_decrypt<const N: usize, R: Print + Clock>(
 ) -> anyhow::Result<()>
     requires degree { N ≤ 32768 }
     requires secret_set { (secret.now).set ≡ (ctx.now).set }
-    requires cipher_set { (cipher.now).set ≡ (ctx.now).set }
-    requires level { (cipher.now).level ≡ (ctx.now).level }
-    requires room { 8 * ((ctx.now).level + length (aux_of (ctx.now).set) + 2) ≤ length scratch.old }
+    requires cipher_of { IsCipherOf (ctx.now) (cipher.now) }
+    requires room { scratch_rows_in (ctx.now) ≤ length scratch.old }
 {
     let mut row = [[0; N]];
     let mut least = u128::MAX;
@@ -143,12 +143,12 @@ abbrev pub invariant-loop-i : goal.invariant-loop-i
 invariant-loop-i g l = record { set : l.cipher.set ≡ l.ctx.set; level : l.cipher.level ≡ l.ctx.level; parts : l.cipher.parts ≡ 2 }
 ANTT
 proof time_decrypt/Invariants.antt <<'ANTT'
-use Rattle.std.proofs.Common.{◌+◌, ◌*◌, ◌≤◌, length}
-use Rattle.set_table.specs.Sets.{aux_of}
+use Rattle.std.proofs.Common.{◌≤◌, length}
+use Rattle.bfv_params.specs.Contexts.{scratch_rows_in}
 use Rattle.decrypt_bench.proofs.time_decrypt.Given as goal
 
 abbrev pub invariant-turns : goal.invariant-turns
-invariant-turns g l = 8 * (l.ctx.level + length (aux_of l.ctx.set) + 2) ≤ length l.scratch
+invariant-turns g l = scratch_rows_in l.ctx ≤ length l.scratch
 ANTT
 
 build

@@ -19,8 +19,9 @@ cat > src/main.rt <<'RATTLE'
 
 mod rows;
 
-ghost use Rattle.std.specs.Prelude.{◌≡◌, ◌+◌, ◌*◌, ◌≤◌, length, IfOk};
-ghost use Rattle.set_table.specs.Sets.{aux_of, data_of, degree_of};
+ghost use Rattle.std.specs.Prelude.{◌≡◌, ◌≤◌, length, IfOk};
+ghost use Rattle.set_table.specs.Sets.{data_of, degree_of};
+ghost use Rattle.bfv_params.specs.Contexts.{scratch_rows_in};
 
 use crate::rows::{fill, report};
 use bfv_encrypt::encrypt;
@@ -59,7 +60,7 @@ fn new_cipher<const N: usize>(alloc: Global, ctx: &Context<N>) -> Result<Cipher<
 
 fn scratch_of<const N: usize>(alloc: Global, ctx: &Context<N>) -> Result<PolyBuf<N>, AllocError>
     requires { N ≤ 32768 }
-    ensures { IfOk result (λ b. length b ≡ 8 * ((ctx.now).level + length (aux_of (ctx.now).set) + 2)) }
+    ensures { IfOk result (λ b. length b ≡ scratch_rows_in (ctx.now)) }
 {
     PolyBuf::<N>::new(alloc, ctx.scratch_rows())
 }
@@ -70,7 +71,7 @@ fn time_encrypt<const N: usize, R: Print + Clock>(rt: &R, ctx: &Context<N>, publ
     requires public_set { (public.now).set ≡ (ctx.now).set }
     requires out_set { (out.old).set ≡ (ctx.now).set }
     requires out_level { (out.old).level ≡ (ctx.now).level }
-    requires scratch { length scratch.old ≡ 8 * ((ctx.now).level + length (aux_of (ctx.now).set) + 2) }
+    requires scratch { length scratch.old ≡ scratch_rows_in (ctx.now) }
 {
     let mut plain = [0; N];
     fill(ctx.plain_modulus(), 300, &mut plain);

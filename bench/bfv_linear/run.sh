@@ -19,8 +19,9 @@ cat > src/main.rt <<'RATTLE'
 
 mod rows;
 
-ghost use Rattle.std.specs.Prelude.{◌≡◌, ◌+◌, ◌*◌, ◌≤◌, length, IfOk};
-ghost use Rattle.set_table.specs.Sets.{aux_of, degree_of};
+ghost use Rattle.std.specs.Prelude.{◌≡◌, ◌≤◌, length, IfOk};
+ghost use Rattle.set_table.specs.Sets.{degree_of};
+ghost use Rattle.bfv_params.specs.Contexts.{scratch_rows_in};
 ghost use Rattle.bfv_params.specs.Ciphers.{IsCipherOf};
 
 use crate::rows::{fill, report};
@@ -68,7 +69,7 @@ fn time_mul_plain<const N: usize, R: Print + Clock>(rt: &R, ctx: &Context<N>, a:
     requires degree { N ≤ 32768 }
     requires a_of { IsCipherOf (ctx.now) (a.now) }
     requires out_of { IsCipherOf (ctx.now) (out.old) }
-    requires scratch_rows { length scratch.old ≡ 8 * ((ctx.now).level + length (aux_of (ctx.now).set) + 2) }
+    requires scratch_rows { length scratch.old ≡ scratch_rows_in (ctx.now) }
 {
     let mut plain = [0; N];
     fill(ctx.plain_modulus(), 300, &mut plain);
@@ -84,7 +85,7 @@ fn time_mul_plain<const N: usize, R: Print + Clock>(rt: &R, ctx: &Context<N>, a:
 
 fn scratch_of<const N: usize>(alloc: Global, ctx: &Context<N>) -> Result<PolyBuf<N>, AllocError>
     requires { N ≤ 32768 }
-    ensures { IfOk result (λ b. length b ≡ 8 * ((ctx.now).level + length (aux_of (ctx.now).set) + 2)) }
+    ensures { IfOk result (λ b. length b ≡ scratch_rows_in (ctx.now)) }
 {
     PolyBuf::<N>::new(alloc, ctx.scratch_rows())
 }
