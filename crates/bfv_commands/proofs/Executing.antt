@@ -25,7 +25,7 @@ use Rattle.script_text.specs.declared.script.Op.TheVariants.{Add, Sub, Neg, AddP
 use Rattle.script_text.specs.declared.script.Step.{Step}
 use Rattle.script_text.specs.Scripts.{Script, IsSound, AllFit, Fits, plain_inputs}
 use Rattle.script_run.specs.Places.{cipher_at}
-use Rattle.script_run.specs.Registers.{IsPlan, Live, input_count}
+use Rattle.script_run.specs.Registers.{Live, input_count}
 use Rattle.script_run.specs.Runs.{Carries, InputsCarry}
 use Rattle.script_run.specs.Workspaces.{WorkspaceValue, MadeFor, input_of, whole_context}
 use Rattle.cipher_files.specs.Contents.{part_words}
@@ -153,23 +153,13 @@ pub owner_ternary : (n : ℕ) (script : Script) (contents : List FileContent) (o
 owner_ternary n script contents owner plains lists sound is = secret_polynomial_within owner.secret n (is.ciphers 0 (some_cipher script sound)).belongs.ternary.below
 
 -- ---- workspaces that are filled
--- a workspace stays made for a script while its places and its plain inputs are filled
-pub still_made : (script : Script) (old new : WorkspaceValue) → MadeFor script old → new.set ≡ old.set → new.inputs ≡ old.inputs → new.plan ≡ old.plan
-    → length new.places ≡ length old.places → length new.plains ≡ length old.plains → MadeFor script new
-still_made script old new made set inputs plan places plains = record {
-  same_set = set ∙ made.same_set;
-  inputs = inputs ∙ made.inputs;
-  plan = subst (λ (p : List ℕ). IsPlan script p (length new.places)) (sym plan) (subst (λ (count : ℕ). IsPlan script old.plan count) (sym places) made.plan);
-  plains = let more = made.plains in omega arith;
-}
-
--- its inputs have places of their own
-pub inputs_apart : (script : Script) (space : WorkspaceValue) → MadeFor script space → (r other : ℕ) → r < space.inputs → other < space.inputs
+-- the inputs of a workspace have places of their own
+pub inputs_apart : (script : Script) (space : WorkspaceValue) → MadeFor script space → space.inputs ≡ input_count script → (r other : ℕ) → r < space.inputs → other < space.inputs
     → slice_index space.plan r ≡ slice_index space.plan other → r ≡ other
-inputs_apart script space made r other below other_below same = made.plan.apart 0 r other (omega arith) (live r below) (live other other_below) same
+inputs_apart script space made count r other below other_below same = made.plan.apart 0 r other (omega arith) (live r below) (live other other_below) same
   where
     live : (q : ℕ) → q < space.inputs → Live script 0 q
-    live q inside = let count = made.inputs in record { defined = omega arith; needed = inl refl }
+    live q inside = record { defined = omega arith; needed = inl refl }
 
 -- a place that was not filled is a cipher of the context
 pub zero_of_context : (n : ℕ) (ctx : ContextValue) (old new : WorkspaceValue) (r : ℕ) → ctx ≡ whole_context new.set → new.places ≡ old.places → new.plan ≡ old.plan

@@ -24,7 +24,8 @@ use Rattle.script_text.specs.declared.script.InputKind.TheVariants as input
 use Rattle.script_text.specs.Scripts.{Script, IsSound, cipher_inputs, is_cipher, parts_of}
 use Rattle.script_text.specs.Value.{value_of}
 use Rattle.noise_check.specs.ExactBounds.{exact_bounds}
-use Rattle.script_run.specs.Runs.{Carries, IsQuiet}
+use Rattle.script_run.specs.Premises.{IsQuiet}
+use Rattle.script_run.specs.Runs.{Carries}
 use Rattle.script_run.specs.Workspaces.{whole_context}
 use Rattle.noise_check.specs.declared.verdict.Verdict.{Verdict}
 use Rattle.noise_check.specs.declared.verdict.Verdict.TheVariants as verdict

@@ -9,7 +9,7 @@ use Rattle.bfv_model.specs.FileText.{FileContent, bound_fits}
 use Rattle.cipher_files.specs.declared.head.Head.{Head}
 use Rattle.script_text.specs.Scripts.{Script, parts_of}
 use Rattle.noise_check.specs.ExactBounds.{exact_bounds}
-use Rattle.script_run.specs.Runs.{IsQuiet}
+use Rattle.script_run.specs.Premises.{IsQuiet}
 use Rattle.script_run.specs.Workspaces.{whole_context}
 use Rattle.command_words.specs.declared.form.Form.TheVariants as form
 use Rattle.command_words.specs.declared.status.Status.{Status}

@@ -1,82 +1,60 @@
 -- Live registers, and what a step reads.
 use Rattle.std.proofs.Common.{arith, ◌≡◌, ◌≢◌, ◌⊎◌, ℕ, zero, suc, ◌+◌, ◌<◌, ◌≤◌, Bool, true, false, not, cond, nat_lt, position, None, refl, sym, ap, subst, ◌∙◌, ⊎_elim, inl, inr, List, [], ◌∷◌, length, slice_index, get_or, Some, All}
-use Rattle.std.specs.Prelude.{IfSome, slice_get}
+use Rattle.std.specs.Prelude.{Contains, IfSome, Option, slice_get}
+use Rattle.std.specs.List.{AllByRecursion}
 use Rattle.std.proofs.lemmas.Bool.{cases_lt, lt-ltb, le-ltb}
 use Rattle.std.proofs.lemmas.List.{get_or_default}
 use Rattle.std.proofs.lemmas.List.Sums.{position_or_len_is}
 use Rattle.std.proofs.lemmas.Option.{get_or_from_slice_get}
 use Rattle.script_text.specs.declared.script.Op.{Op}
-use Rattle.script_text.specs.declared.script.Op.TheVariants.{Add, Sub, Neg, AddPlain, SubPlain, MulPlain, MulConst, Mul, Relin, Turn, Swap}
+use Rattle.script_text.specs.declared.script.Op.TheVariants.{Neg}
 use Rattle.script_text.specs.declared.script.Step.{Step}
-use Rattle.script_text.specs.Scripts.{Script, is_linear}
+use Rattle.script_text.specs.Scripts.{Script, is_linear, operands_of, plain_operand_of}
 use Rattle.script_text.specs.Evaluating.{IsWithin}
-use Rattle.script_run.specs.Registers.{IsPlan, Live, Reads, input_count}
+use Rattle.script_run.specs.Registers.{IsPlan, Live, input_count}
 use Rattle.script_run.specs.Steps.{OnOperands, OnPlain}
 
+-- what holds of all elements of a list, and of each
+all_of : {P : ℕ → Type 0} (xs : List ℕ) → ((x : ℕ) → Contains xs x → P x) → AllByRecursion P xs
+all_of [] each = tt
+all_of (x ∷ xs) each = (each x (0, omega arith, refl), all_of xs (λ y (i, below, is). each y (suc i, omega (arith, below), is)))
+
+one_of : {P : ℕ → Type 0} (xs : List ℕ) (x : ℕ) → AllByRecursion P xs → Contains xs x → P x
+one_of [] x all (i, below, is) = absurd (omega (arith, below))
+one_of {P} (y ∷ xs) x all (zero, below, is) = subst P is all.0
+one_of {P} (y ∷ xs) x all (suc i, below, is) = one_of {P} xs x all.1 (i, omega (arith, below), is)
+
+pub all_weaker : {P Q : ℕ → Type 0} (xs : List ℕ) → ((x : ℕ) → P x → Q x) → AllByRecursion P xs → AllByRecursion Q xs
+all_weaker [] weaker all = tt
+all_weaker {P} {Q} (x ∷ xs) weaker all = (weaker x all.0, all_weaker {P} {Q} xs weaker all.1)
+
+some_weaker : {P Q : ℕ → Type 0} (found : Option ℕ) → ((x : ℕ) → P x → Q x) → IfSome found P → IfSome found Q
+some_weaker None weaker some = tt
+some_weaker (Some x) weaker some = weaker x some
+
 -- a fact of each register that an operation reads is one of its operands
-pub on_reads : (op : Op) (P : ℕ → Type 0) → ((r : ℕ) → Reads op r → P r) → OnOperands op P
-on_reads (Add a b) P f = (f a (inl refl), f b (inr refl))
-on_reads (Sub a b) P f = (f a (inl refl), f b (inr refl))
-on_reads (Neg a) P f = f a refl
-on_reads (AddPlain a p) P f = f a refl
-on_reads (SubPlain a p) P f = f a refl
-on_reads (MulPlain a p) P f = f a refl
-on_reads (MulConst a k) P f = f a refl
-on_reads (Mul a b) P f = (f a (inl refl), f b (inr refl))
-on_reads (Relin a) P f = f a refl
-on_reads (Turn a k) P f = f a refl
-on_reads (Swap a) P f = f a refl
-
-one_of : (a b r registers : ℕ) → a < registers → b < registers → (r ≡ a) ⊎ (r ≡ b) → r < registers
-one_of a b r registers first second reads = ⊎_elim (λ is. omega (arith, is, first)) (λ is. omega (arith, is, second)) reads
-
-reads_within : (t plains registers : ℕ) (op : Op) (r : ℕ) → IsWithin t plains registers op → Reads op r → r < registers
-reads_within t plains registers (Add a b) r within reads = one_of a b r registers within.0 within.1 reads
-reads_within t plains registers (Sub a b) r within reads = one_of a b r registers within.0 within.1 reads
-reads_within t plains registers (Neg a) r within reads = omega arith
-reads_within t plains registers (AddPlain a p) r within reads = let below = within.0 in omega arith
-reads_within t plains registers (SubPlain a p) r within reads = let below = within.0 in omega arith
-reads_within t plains registers (MulPlain a p) r within reads = let below = within.0 in omega arith
-reads_within t plains registers (MulConst a k) r within reads = let below = within.0 in omega arith
-reads_within t plains registers (Mul a b) r within reads = one_of a b r registers within.0 within.1 reads
-reads_within t plains registers (Relin a) r within reads = omega arith
-reads_within t plains registers (Turn a k) r within reads = omega arith
-reads_within t plains registers (Swap a) r within reads = omega arith
+pub on_reads : (op : Op) (P : ℕ → Type 0) → ((r : ℕ) → Contains (operands_of op) r → P r) → OnOperands op P
+on_reads op P each = all_of {P} (operands_of op) each
 
 -- the same among more plain inputs and registers
 pub within_more : (t plains registers more others : ℕ) (op : Op) → plains ≤ more → registers ≤ others → IsWithin t plains registers op → IsWithin t more others op
-within_more t plains registers more others (Add a b) p r within = let x = within.0 in let y = within.1 in (omega arith, omega arith)
-within_more t plains registers more others (Sub a b) p r within = let x = within.0 in let y = within.1 in (omega arith, omega arith)
-within_more t plains registers more others (Neg a) p r within = omega arith
-within_more t plains registers more others (AddPlain a i) p r within = let x = within.0 in let y = within.1 in (omega arith, omega arith)
-within_more t plains registers more others (SubPlain a i) p r within = let x = within.0 in let y = within.1 in (omega arith, omega arith)
-within_more t plains registers more others (MulPlain a i) p r within = let x = within.0 in let y = within.1 in (omega arith, omega arith)
-within_more t plains registers more others (MulConst a k) p r within = let x = within.0 in (omega arith, within.1)
-within_more t plains registers more others (Mul a b) p r within = let x = within.0 in let y = within.1 in (omega arith, omega arith)
-within_more t plains registers more others (Relin a) p r within = omega arith
-within_more t plains registers more others (Turn a k) p r within = omega arith
-within_more t plains registers more others (Swap a) p r within = omega arith
+within_more t plains registers more others op p r within =
+    (
+      all_weaker {λ x. x < registers} {λ x. x < others} (operands_of op) (λ x below. omega (arith, below, r)) within.0,
+      some_weaker {λ x. x < plains} {λ x. x < more} (plain_operand_of op) (λ x below. omega (arith, below, p)) within.1,
+      within.2,
+    )
 
 -- a fact of each plain input is one of that which an operation reads
 pub on_plain : (t plains registers : ℕ) (op : Op) (P : ℕ → Type 0) → IsWithin t plains registers op → ((p : ℕ) → p < plains → P p) → OnPlain op P
-on_plain t plains registers (Add a b) P within f = tt
-on_plain t plains registers (Sub a b) P within f = tt
-on_plain t plains registers (Neg a) P within f = tt
-on_plain t plains registers (AddPlain a p) P within f = f p within.1
-on_plain t plains registers (SubPlain a p) P within f = f p within.1
-on_plain t plains registers (MulPlain a p) P within f = f p within.1
-on_plain t plains registers (MulConst a k) P within f = tt
-on_plain t plains registers (Mul a b) P within f = tt
-on_plain t plains registers (Relin a) P within f = tt
-on_plain t plains registers (Turn a k) P within f = tt
-on_plain t plains registers (Swap a) P within f = tt
+on_plain t plains registers op P within each = some_weaker {λ x. x < plains} {P} (plain_operand_of op) each within.1
 
 -- what a step reads is live before it
 pub operand_live : (script : Script) (i : ℕ) (op : Op) (step : Step) (t plains r : ℕ) → slice_get script.steps i ≡ Some step → op ≡ step.op
-    → IsWithin t plains (input_count script + i) op → Reads op r → Live script i r
+    → IsWithin t plains (input_count script + i) op → Contains (operands_of op) r → Live script i r
 operand_live script i op step t plains r is same within reads = record {
-  defined = reads_within t plains (input_count script + i) op r within reads;
-  needed = inr (inr (i, step, omega arith, is, subst (λ (o : Op). Reads o r) same reads));
+  defined = one_of {λ x. x < input_count script + i} (operands_of op) r within.0 reads;
+  needed = inr (inr (i, step, omega arith, is, subst (λ (o : Op). Contains (operands_of o) r) same reads));
 }
 
 -- a register that is live after a step was live before, or is the step's result

@@ -3,13 +3,14 @@ use Rattle.std.proofs.Common.{arith, ◌≡◌, ◌≢◌, ◌⊎◌, ℕ, zero,
 use Rattle.std.proofs.lemmas.Bool.{cases_eq, cases_lt}
 use Rattle.std.proofs.lemmas.List.{take_at}
 use Rattle.set_table.specs.declared.SetName.{SetName}
-use Rattle.set_table.specs.Sets.{aux_of, data_of}
+use Rattle.set_table.specs.Sets.{data_of}
 use Rattle.script_text.specs.Scripts.{Script}
+use Rattle.bfv_params.specs.Contexts.{scratch_rows_in}
 use Rattle.bfv_params.specs.Values.{CipherValue, ContextValue}
 use Rattle.bfv_params.specs.Ciphers.{IsCipherOf}
 use Rattle.script_run.specs.Registers.{IsPlan, input_count}
 use Rattle.script_run.specs.Places.{cipher_at}
-use Rattle.script_run.specs.Workspaces.{WorkspaceValue, IsWorkspace, input_of, whole_context}
+use Rattle.script_run.specs.Workspaces.{WorkspaceValue, IsWorkspace, MadeFor, SameShape, input_of, whole_context}
 
 -- the plan in which each register has a place of its own
 pub own_plan : (script : Script) (plan : List ℕ) (registers count : ℕ) → registers ≡ input_count script + length script.steps → length plan ≡ registers
@@ -58,14 +59,14 @@ of_whole ctx set cipher same level kept = record { set = kept.set ∙ sym same; 
 
 -- the rows to work in are those that the context asks for
 pub scratch_of_context : (n : ℕ) (space : WorkspaceValue) (scratch : ℕ) (ctx : ContextValue) → IsWorkspace n space scratch → space.set ≡ ctx.set → ctx.level ≡ length (data_of ctx.set)
-    → scratch ≡ 8 * (ctx.level + length (aux_of ctx.set) + 2)
+    → scratch ≡ scratch_rows_in ctx
 scratch_of_context n space scratch ctx kept same level =
-    kept.scratch_rows ∙ ap (λ (s : SetName). 8 * (length (data_of s) + length (aux_of s) + 2)) same ∙ ap (λ (k : ℕ). 8 * (k + length (aux_of ctx.set) + 2)) (sym level)
+    kept.scratch_rows ∙ ap (λ (s : SetName). scratch_rows_in (whole_context s)) same ∙ ap (λ (k : ℕ). scratch_rows_in record { set = ctx.set; level = k }) (sym level)
 
 -- what a workspace keeps once more, after all its places were written
 pub kept_after : (n : ℕ) (space : WorkspaceValue) (scratch rows : ℕ) (ctx : ContextValue) (places : List CipherValue) (place : ℕ) → IsWorkspace n space scratch → space.set ≡ ctx.set → ctx.level ≡ length (data_of ctx.set)
     → length places ≡ length space.places → ((p : ℕ) → p < length places → IsCipherOf ctx (cipher_at places p)) → place < length places → rows ≡ scratch
-    → IsWorkspace n (record (space) { places = places; done = true; at = place }) rows
+    → IsWorkspace n (record (space) { places = places; done = true; place = place }) rows
 kept_after n space scratch rows ctx places place kept same level count all there size = record {
   degree = kept.degree;
   planned = kept.planned;
@@ -73,6 +74,14 @@ kept_after n space scratch rows ctx places place kept same level count all there
   there = λ _. there;
   others = λ p inside none. of_whole ctx space.set (cipher_at places p) same level (all p inside);
   scratch_rows = size ∙ kept.scratch_rows;
+}
+
+-- a workspace whose shape stays is made for the same scripts
+pub still_made : (script : Script) (old new : WorkspaceValue) → MadeFor script old → SameShape old new → MadeFor script new
+still_made script old new made same = record {
+  same_set = same.set ∙ made.same_set;
+  plan = subst (λ (p : List ℕ). IsPlan script p (length new.places)) (sym same.plan) (subst (λ (count : ℕ). IsPlan script old.plan count) (sym same.count) made.plan);
+  plains = let more = made.plains in let count = same.plain_count in omega arith;
 }
 
 -- a list that is written whole

@@ -11,6 +11,7 @@ use Rattle.bfv_params.specs.Ciphers.{HoldsIn}
 use Rattle.script_text.specs.declared.script.Op.{Op}
 use Rattle.script_text.specs.declared.script.Op.TheVariants.{Add, Sub, Neg, AddPlain, SubPlain, MulPlain, MulConst}
 use Rattle.script_text.specs.Evaluating.{IsWithin}
+use Rattle.key_switch.specs.Providers.{Digits}
 use Rattle.script_run.specs.Runs.{Carries}
 use Rattle.script_run.specs.Steps.{ResultCarries}
 use Rattle.script_run.proofs.Carrying.{sum_carries, difference_carries, negative_carries, multiple_carries, product_carries}
@@ -19,60 +20,60 @@ use Rattle.script_run.proofs.Carrying.{sum_carries, difference_carries, negative
 pub moved : (n : ℕ) (ctx : ContextValue) (s : ℕ → ℤ) (values : List ℕ) (bound : ℕ) (x y : CipherValue) → x ≡ y → Carries n ctx s y values bound → Carries n ctx s x values bound
 moved n ctx s values bound x y is = subst (λ c. Carries n ctx s c values bound) (sym is)
 
-module _ (n : ℕ) (ctx : ContextValue) (plains : List (List ℕ)) (operand : ℕ → CipherValue) (x out : CipherValue) (op : Op) (a : ℕ) (left : x ≡ operand a) where
+module _ (n : ℕ) (ctx : ContextValue) (told : Digits → Type 0) (plains : List (List ℕ)) (operand : ℕ → CipherValue) (x out : CipherValue) (op : Op) (a : ℕ) (left : x ≡ operand a) where
   pub add_result : (y : CipherValue) (b : ℕ) → op ≡ Add a b → y ≡ operand b
       → ((s : ℕ → ℤ) (m other : ℕ → ℕ) (bound more : ℕ) → HoldsIn n ctx x s m bound → HoldsIn n ctx y s other more
       → HoldsIn n ctx out s (plain_sum (plain_of ctx.set) m other) (bound + more))
-      → ResultCarries n ctx op plains operand out
-  add_result y b is right made = subst (λ (o : Op). ResultCarries n ctx o plains operand out) (sym is) (λ s lists values bounds plain on.
+      → ResultCarries n ctx told op plains operand out
+  add_result y b is right made = subst (λ (o : Op). ResultCarries n ctx told o plains operand out) (sym is) (λ s lists values bounds premise plain on.
       let one = moved n ctx s _ _ x (operand a) left on.0 in
-      let two = moved n ctx s _ _ y (operand b) right on.1 in
+      let two = moved n ctx s _ _ y (operand b) right on.1.0 in
       sum_carries n ctx out s _ one.plaintext _ one.slots two.plaintext _ two.slots (made s one.plaintext two.plaintext _ _ one.holds two.holds))
 
   pub sub_result : (y : CipherValue) (b : ℕ) → op ≡ Sub a b → y ≡ operand b
       → ((s : ℕ → ℤ) (m other : ℕ → ℕ) (bound more : ℕ) → HoldsIn n ctx x s m bound → HoldsIn n ctx y s other more
       → HoldsIn n ctx out s (plain_difference (plain_of ctx.set) m other) (bound + more))
-      → ResultCarries n ctx op plains operand out
-  sub_result y b is right made = subst (λ (o : Op). ResultCarries n ctx o plains operand out) (sym is) (λ s lists values bounds plain on.
+      → ResultCarries n ctx told op plains operand out
+  sub_result y b is right made = subst (λ (o : Op). ResultCarries n ctx told o plains operand out) (sym is) (λ s lists values bounds premise plain on.
       let one = moved n ctx s _ _ x (operand a) left on.0 in
-      let two = moved n ctx s _ _ y (operand b) right on.1 in
+      let two = moved n ctx s _ _ y (operand b) right on.1.0 in
       difference_carries n ctx out s _ one.plaintext _ one.slots two.plaintext _ two.slots (made s one.plaintext two.plaintext _ _ one.holds two.holds))
 
   pub neg_result : op ≡ Neg a
       → ((s : ℕ → ℤ) (m : ℕ → ℕ) (bound : ℕ) → HoldsIn n ctx x s m bound → HoldsIn n ctx out s (plain_negative (plain_of ctx.set) m) bound)
-      → ResultCarries n ctx op plains operand out
-  neg_result is made = subst (λ (o : Op). ResultCarries n ctx o plains operand out) (sym is) (λ s lists values bounds plain on.
-      let one = moved n ctx s _ _ x (operand a) left on in
+      → ResultCarries n ctx told op plains operand out
+  neg_result is made = subst (λ (o : Op). ResultCarries n ctx told o plains operand out) (sym is) (λ s lists values bounds premise plain on.
+      let one = moved n ctx s _ _ x (operand a) left on.0 in
       negative_carries n ctx out s _ one.plaintext _ one.slots (made s one.plaintext _ one.holds))
 
   pub mul_const_result : (k : ℕ) → op ≡ MulConst a k
       → ((s : ℕ → ℤ) (m : ℕ → ℕ) (bound : ℕ) → HoldsIn n ctx x s m bound
       → HoldsIn n ctx out s (plain_multiple (plain_of ctx.set) (pos k) m) (nat_abs (centred_residue (plain_of ctx.set) (pos k)) * bound))
-      → ResultCarries n ctx op plains operand out
-  mul_const_result k is made = subst (λ (o : Op). ResultCarries n ctx o plains operand out) (sym is) (λ s lists values bounds plain on.
-      let one = moved n ctx s _ _ x (operand a) left on in
+      → ResultCarries n ctx told op plains operand out
+  mul_const_result k is made = subst (λ (o : Op). ResultCarries n ctx told o plains operand out) (sym is) (λ s lists values bounds premise plain on.
+      let one = moved n ctx s _ _ x (operand a) left on.0 in
       multiple_carries n ctx out s _ one.plaintext _ one.slots k (made s one.plaintext _ one.holds))
 
   pub add_plain_result : (p registers : ℕ) (row list : List ℕ) → op ≡ AddPlain a p → IsWithin (plain_of ctx.set) (length plains) registers op → list ≡ slice_index_or plains p list → slots_of ctx.set (row_polynomial row) ≡ list
       → ((s : ℕ → ℤ) (m : ℕ → ℕ) (bound : ℕ) → HoldsIn n ctx x s m bound
       → HoldsIn n ctx out s (plain_sum (plain_of ctx.set) m (slice_index row)) (bound + plain_of ctx.set))
-      → ResultCarries n ctx op plains operand out
-  add_plain_result p registers row list is within read encoded made = subst (λ (o : Op). ResultCarries n ctx o plains operand out) (sym is) (λ s lists values bounds plain on.
-      let one = moved n ctx s _ _ x (operand a) left on in
+      → ResultCarries n ctx told op plains operand out
+  add_plain_result p registers row list is within read encoded made = subst (λ (o : Op). ResultCarries n ctx told o plains operand out) (sym is) (λ s lists values bounds premise plain on.
+      let one = moved n ctx s _ _ x (operand a) left on.0 in
       sum_carries n ctx out s _ one.plaintext _ one.slots (slice_index row) (slice_index_or lists p []) (encoded ∙ get_or_read plains p list (subst (IsWithin (plain_of ctx.set) (length plains) registers) is within).1 read [] ∙ plain) (made s one.plaintext _ one.holds))
 
   pub sub_plain_result : (p registers : ℕ) (row list : List ℕ) → op ≡ SubPlain a p → IsWithin (plain_of ctx.set) (length plains) registers op → list ≡ slice_index_or plains p list → slots_of ctx.set (row_polynomial row) ≡ list
       → ((s : ℕ → ℤ) (m : ℕ → ℕ) (bound : ℕ) → HoldsIn n ctx x s m bound
       → HoldsIn n ctx out s (plain_difference (plain_of ctx.set) m (slice_index row)) (bound + plain_of ctx.set))
-      → ResultCarries n ctx op plains operand out
-  sub_plain_result p registers row list is within read encoded made = subst (λ (o : Op). ResultCarries n ctx o plains operand out) (sym is) (λ s lists values bounds plain on.
-      let one = moved n ctx s _ _ x (operand a) left on in
+      → ResultCarries n ctx told op plains operand out
+  sub_plain_result p registers row list is within read encoded made = subst (λ (o : Op). ResultCarries n ctx told o plains operand out) (sym is) (λ s lists values bounds premise plain on.
+      let one = moved n ctx s _ _ x (operand a) left on.0 in
       difference_carries n ctx out s _ one.plaintext _ one.slots (slice_index row) (slice_index_or lists p []) (encoded ∙ get_or_read plains p list (subst (IsWithin (plain_of ctx.set) (length plains) registers) is within).1 read [] ∙ plain) (made s one.plaintext _ one.holds))
 
   pub mul_plain_result : (p registers : ℕ) (row list : List ℕ) → op ≡ MulPlain a p → IsWithin (plain_of ctx.set) (length plains) registers op → n ≡ degree_of ctx.set → list ≡ slice_index_or plains p list → slots_of ctx.set (row_polynomial row) ≡ list
       → ((s : ℕ → ℤ) (m : ℕ → ℕ) (bound : ℕ) → HoldsIn n ctx x s m bound
       → HoldsIn n ctx out s (plain_product n (plain_of ctx.set) m (slice_index row)) (n * (plain_of ctx.set / 2) * bound))
-      → ResultCarries n ctx op plains operand out
-  mul_plain_result p registers row list is within degree read encoded made = subst (λ (o : Op). ResultCarries n ctx o plains operand out) (sym is) (λ s lists values bounds plain on.
-      let one = moved n ctx s _ _ x (operand a) left on in
+      → ResultCarries n ctx told op plains operand out
+  mul_plain_result p registers row list is within degree read encoded made = subst (λ (o : Op). ResultCarries n ctx told o plains operand out) (sym is) (λ s lists values bounds premise plain on.
+      let one = moved n ctx s _ _ x (operand a) left on.0 in
       product_carries n ctx out s _ one.plaintext _ one.slots (slice_index row) (slice_index_or lists p []) (encoded ∙ get_or_read plains p list (subst (IsWithin (plain_of ctx.set) (length plains) registers) is within).1 read [] ∙ plain) degree (made s one.plaintext _ one.holds))

@@ -16,9 +16,12 @@ use Rattle.script_run.proofs.Inputs.{lists_counted}
 use Rattle.noise_check.specs.ExactBounds.{exact_bound, exact_bounds}
 use Rattle.script_run.specs.Registers.{IsPlan, Live, input_count}
 use Rattle.script_run.specs.Places.{cipher_at}
+use Rattle.key_switch.specs.Providers.{Digits}
 use Rattle.script_run.specs.Runs.{Carries, InputsCarry}
+use Rattle.script_run.specs.Premises.{RunPremise}
 use Rattle.script_run.specs.Steps.{StepDone}
 use Rattle.script_run.proofs.Registers.{registers-before, registers-result, registers-end}
+use Rattle.script_run.proofs.Premises.{bounds_before, step_premise}
 use Rattle.script_run.proofs.Live.{live_before, on_plain, on_reads, operand_live, output_live}
 
 -- what the registers before step i are to have: parts, values and bounds
@@ -29,23 +32,20 @@ abbrev pub values_before : SetName → Script → List (List ℕ) → ℕ → Li
 values_before set script lists i =
     registers (value_made (degree_of set) (plain_of set) (lists_of is_plain script.inputs lists)) (lists_of is_cipher script.inputs lists) (take i script.steps)
 
-abbrev pub bounds_before : SetName → Script → List ℕ → ℕ → List ℕ
-bounds_before set script bounds i = registers (exact_bound set) bounds (take i script.steps)
-
 -- i steps were done on the places: those of the live registers have what they are to have
-pub record Ran (n : ℕ) (ctx : ContextValue) (script : Script) (plan : List ℕ) (plains : List (List ℕ)) (old : List CipherValue) (i : ℕ) (places : List CipherValue) : Type 0 where
+pub record Ran (n : ℕ) (ctx : ContextValue) (told : Digits → Type 0) (script : Script) (plan : List ℕ) (plains : List (List ℕ)) (old : List CipherValue) (i : ℕ) (places : List CipherValue) : Type 0 where
   pub size : length places ≡ length old
   pub of_context : (p : ℕ) → p < length places → IsCipherOf ctx (cipher_at places p)
   pub rooms : (p : ℕ) → (cipher_at places p).room ≡ (cipher_at old p).room
   pub parts : (r : ℕ) → Live script i r → (cipher_at places (slice_index plan r)).parts ≡ slice_index (parts_before script i) r
-  pub carries : (s : ℕ → ℤ) (lists : List (List ℕ)) (bounds : List ℕ) → InputsCarry n ctx s script plan old plains lists bounds → (r : ℕ) → Live script i r
+  pub carries : (s : ℕ → ℤ) (lists : List (List ℕ)) (bounds : List ℕ) → InputsCarry n ctx s script plan old plains lists bounds → RunPremise n ctx told s script bounds → (r : ℕ) → Live script i r
       → Carries n ctx s (cipher_at places (slice_index plan r)) (slice_index_or (values_before ctx.set script lists i) r []) (slice_index (bounds_before ctx.set script bounds i) r)
 
 -- one step more
-module _ (n : ℕ) (ctx : ContextValue) (script : Script) (plan : List ℕ) (plains : List (List ℕ)) (old : List CipherValue) (i : ℕ) (places new : List CipherValue) (op : Op) (step : Step) (out : ℕ)
-    (planned : IsPlan script plan (length old)) (below : i < length script.steps) (is : slice_get script.steps i ≡ Some step) (same : op ≡ step.op)
+module _ (n : ℕ) (ctx : ContextValue) (told : Digits → Type 0) (script : Script) (plan : List ℕ) (plains : List (List ℕ)) (old : List CipherValue) (i : ℕ) (places new : List CipherValue) (op : Op) (step : Step) (out : ℕ)
+    (of_context : script.set ≡ ctx.set) (planned : IsPlan script plan (length old)) (below : i < length script.steps) (is : slice_get script.steps i ≡ Some step) (same : op ≡ step.op)
     (within : IsWithin (plain_of ctx.set) (length (plain_inputs script.inputs)) (input_count script + i) op) (place : out ≡ slice_index plan (input_count script + i))
-    (done : StepDone n ctx op plan plains out places new) (ran : Ran n ctx script plan plains old i places) where
+    (done : StepDone n ctx told op plan plains out places new) (ran : Ran n ctx told script plan plains old i places) where
   before : (r : ℕ) → Live script i r → cipher_at new (slice_index plan r) ≡ cipher_at places (slice_index plan r)
   before r live = done.others (slice_index plan r) (λ equal. planned.result i r below live (equal ∙ place))
 
@@ -62,19 +62,20 @@ module _ (n : ℕ) (ctx : ContextValue) (script : Script) (plan : List ℕ) (pla
       ∙ sym (registers-result parts_made (replicate (input_count script) 2) script.steps i step below is r 0 (result ∙ ap (λ (k : ℕ). k + i) (sym (length-replicate (input_count script) 2)))))
       (live_before script i r live)
 
-  carries_next : (s : ℕ → ℤ) (lists : List (List ℕ)) (bounds : List ℕ) → InputsCarry n ctx s script plan old plains lists bounds → (r : ℕ) → Live script (suc i) r
+  carries_next : (s : ℕ → ℤ) (lists : List (List ℕ)) (bounds : List ℕ) → InputsCarry n ctx s script plan old plains lists bounds → RunPremise n ctx told s script bounds → (r : ℕ) → Live script (suc i) r
       → Carries n ctx s (cipher_at new (slice_index plan r)) (slice_index_or (values_before ctx.set script lists (suc i)) r []) (slice_index (bounds_before ctx.set script bounds (suc i)) r)
-  carries_next s lists bounds carry r live = ⊎_elim
+  carries_next s lists bounds carry premise r live = ⊎_elim
       (λ live_then. carried (sym (before r live_then))
       (sym (registers-before value start script.steps i step below is r [] (subst (λ (k : ℕ). r < k + i) (sym lists_count) live_then.defined)))
       (sym (registers-before bound bounds script.steps i step below is r 0 (subst (λ (k : ℕ). r < k + i) (sym carry.bounded) live_then.defined)))
-      (ran.carries s lists bounds carry r live_then))
+      (ran.carries s lists bounds carry premise r live_then))
       (λ result. carried (sym (here r result))
       (ap (value (values_before ctx.set script lists i)) same ∙ sym (registers-result value start script.steps i step below is r [] (result ∙ ap (λ (k : ℕ). k + i) (sym lists_count))))
       (ap (bound (bounds_before ctx.set script bounds i)) same ∙ sym (registers-result bound bounds script.steps i step below is r 0 (result ∙ ap (λ (k : ℕ). k + i) (sym carry.bounded))))
       (done.carries s (lists_of is_plain script.inputs lists) (values_before ctx.set script lists i) (bounds_before ctx.set script bounds i)
+      (step_premise n ctx told s script bounds i op step _ _ of_context carry.bounded premise below is same within)
       (on_plain _ _ _ op _ within carry.values)
-      (on_reads op _ (λ t reads. ran.carries s lists bounds carry t (operand_live script i op step _ _ t is same within reads)))))
+      (on_reads op _ (λ t reads. ran.carries s lists bounds carry premise t (operand_live script i op step _ _ t is same within reads)))))
       (live_before script i r live)
     where
       value : List (List ℕ) → Op → List ℕ
@@ -93,7 +94,7 @@ module _ (n : ℕ) (ctx : ContextValue) (script : Script) (plan : List ℕ) (pla
       carried {x} {y} {v} {w} {b} {c} ciphers values numbers h =
           subst (λ k. Carries n ctx s y w k) numbers (subst (λ z. Carries n ctx s y z b) values (subst (λ z. Carries n ctx s z v b) ciphers h))
 
-  pub ran_next : Ran n ctx script plan plains old (suc i) new
+  pub ran_next : Ran n ctx told script plan plains old (suc i) new
   ran_next = record {
     size = done.size ∙ ran.size;
     of_context = λ p inside. ⊎_elim (λ out_is. subst (IsCipherOf ctx) (sym (ap (cipher_at new) out_is)) done.of_context)
@@ -105,16 +106,16 @@ module _ (n : ℕ) (ctx : ContextValue) (script : Script) (plan : List ℕ) (pla
   }
 
 -- after the last step the output carries the script's value
-module _ (n : ℕ) (ctx : ContextValue) (script : Script) (plan : List ℕ) (plains : List (List ℕ)) (old places : List CipherValue) (i place : ℕ)
+module _ (n : ℕ) (ctx : ContextValue) (told : Digits → Type 0) (script : Script) (plan : List ℕ) (plains : List (List ℕ)) (old places : List CipherValue) (i place : ℕ)
     (sound : script.output < input_count script + length script.steps) (ended : length script.steps ≤ i) (is : place ≡ slice_index plan script.output)
-    (ran : Ran n ctx script plan plains old i places) where
+    (ran : Ran n ctx told script plan plains old i places) where
   live : Live script i script.output
   live = output_live script i script.output sound ended refl
 
-  pub carries_end : script.set ≡ ctx.set → (s : ℕ → ℤ) (lists : List (List ℕ)) (bounds : List ℕ) → InputsCarry n ctx s script plan old plains lists bounds
+  pub carries_end : script.set ≡ ctx.set → (s : ℕ → ℤ) (lists : List (List ℕ)) (bounds : List ℕ) → InputsCarry n ctx s script plan old plains lists bounds → RunPremise n ctx told s script bounds
       → Carries n ctx s (cipher_at places place) (value_of script lists) (slice_index (exact_bounds script bounds) script.output)
   unfolding exact_bounds
-  carries_end same s lists bounds carry =
+  carries_end same s lists bounds carry premise =
       subst (λ p. Carries n ctx s (cipher_at places p) (value_of script lists) (slice_index (registers (exact_bound script.set) bounds script.steps) script.output)) (sym is)
       (subst (λ set. Carries n ctx s (cipher_at places (slice_index plan script.output))
       (slice_index_or (registers (value_made (degree_of set) (plain_of set) (lists_of is_plain script.inputs lists)) (lists_of is_cipher script.inputs lists) script.steps) script.output [])
@@ -123,4 +124,4 @@ module _ (n : ℕ) (ctx : ContextValue) (script : Script) (plan : List ℕ) (pla
       (registers-end (value_made (degree_of ctx.set) (plain_of ctx.set) (lists_of is_plain script.inputs lists)) (lists_of is_cipher script.inputs lists) script.steps i ended)
       (subst (λ numbers. Carries n ctx s (cipher_at places (slice_index plan script.output)) (slice_index_or (values_before ctx.set script lists i) script.output []) (slice_index numbers script.output))
       (registers-end (exact_bound ctx.set) bounds script.steps i ended)
-      (ran.carries s lists bounds carry script.output live))))
+      (ran.carries s lists bounds carry premise script.output live))))

@@ -1,42 +1,29 @@
 -- Places that are split before and after one of them, which alone is written.
 use Rattle.std.proofs.Common.{rules, arith, ◌≡◌, ◌≢◌, ℕ, suc, ◌+◌, ◌-◌, ◌<◌, ◌≤◌, true, false, refl, sym, ap, subst, ◌∙◌, ⊎_elim, List, [], ◌∷◌, ◌++◌, length, set, nat_lt, slice_index, slice_index_or, length-append}
+use Rattle.std.specs.List.{AllByRecursion}
 use Rattle.std.proofs.lemmas.Bool.{cases_lt}
 use Rattle.std.proofs.lemmas.List.{get_or_append_left}
 use Rattle.std.proofs.Math.Seq.{get_or-append_right, get_or-append_seam}
 use Rattle.bfv_params.specs.Values.{CipherValue, ContextValue}
 use Rattle.bfv_params.specs.Ciphers.{IsCipherOf}
 use Rattle.script_text.specs.declared.script.Op.{Op}
-use Rattle.script_text.specs.declared.script.Op.TheVariants.{Add, Sub, Neg, AddPlain, SubPlain, MulPlain, MulConst, Mul, Relin, Turn, Swap}
+use Rattle.script_text.specs.Scripts.{operands_of}
+use Rattle.key_switch.specs.Providers.{Digits}
 use Rattle.script_run.specs.Places.{cipher_at, no_cipher}
 use Rattle.script_run.specs.Steps.{OnOperands, ResultCarries, ResultHasParts, StepDone, IsOther, other_at}
+use Rattle.script_run.proofs.Live.{all_weaker}
 use Rattle.script_run.proofs.Results.{moved}
 
 -- what holds of each operand carries over
 pub on_operands : (op : Op) (P Q : ℕ → Type 0) → ((r : ℕ) → P r → Q r) → OnOperands op P → OnOperands op Q
-on_operands (Add a b) P Q f p = (f a p.0, f b p.1)
-on_operands (Sub a b) P Q f p = (f a p.0, f b p.1)
-on_operands (Neg a) P Q f p = f a p
-on_operands (AddPlain a i) P Q f p = f a p
-on_operands (SubPlain a i) P Q f p = f a p
-on_operands (MulPlain a i) P Q f p = f a p
-on_operands (MulConst a k) P Q f p = f a p
-on_operands (Mul a b) P Q f p = (f a p.0, f b p.1)
-on_operands (Relin a) P Q f p = f a p
-on_operands (Turn a k) P Q f p = f a p
-on_operands (Swap a) P Q f p = f a p
+on_operands op P Q weaker all = all_weaker {P} {Q} (operands_of op) weaker all
+
+both_of : {P Q : ℕ → Type 0} (xs : List ℕ) → AllByRecursion P xs → AllByRecursion Q xs → AllByRecursion (λ x. P x × Q x) xs
+both_of [] p q = tt
+both_of {P} {Q} (x ∷ xs) p q = ((p.0, q.0), both_of {P} {Q} xs p.1 q.1)
 
 pub on_both : (op : Op) (P Q : ℕ → Type 0) → OnOperands op P → OnOperands op Q → OnOperands op (λ r. P r × Q r)
-on_both (Add a b) P Q p q = ((p.0, q.0), (p.1, q.1))
-on_both (Sub a b) P Q p q = ((p.0, q.0), (p.1, q.1))
-on_both (Neg a) P Q p q = (p, q)
-on_both (AddPlain a i) P Q p q = (p, q)
-on_both (SubPlain a i) P Q p q = (p, q)
-on_both (MulPlain a i) P Q p q = (p, q)
-on_both (MulConst a k) P Q p q = (p, q)
-on_both (Mul a b) P Q p q = ((p.0, q.0), (p.1, q.1))
-on_both (Relin a) P Q p q = (p, q)
-on_both (Turn a k) P Q p q = (p, q)
-on_both (Swap a) P Q p q = (p, q)
+on_both op P Q p q = both_of {P} {Q} (operands_of op) p q
 
 after : (front back : List CipherValue) (x : CipherValue) (p : ℕ) → length front < p → cipher_at (front ++ x ∷ back) p ≡ cipher_at back (p - (length front + 1))
 after front back x p above =
@@ -63,22 +50,22 @@ other_is front back x p apart = ⊎_elim
     (cases_lt p (length front))
 
 -- the operation's result was written into the middle
-pub step_done : (n : ℕ) (ctx : ContextValue) (op : Op) (plan : List ℕ) (plains : List (List ℕ)) (old front one back : List CipherValue) (written : CipherValue)
+pub step_done : (n : ℕ) (ctx : ContextValue) (told : Digits → Type 0) (op : Op) (plan : List ℕ) (plains : List (List ℕ)) (old front one back : List CipherValue) (written : CipherValue)
     → old ≡ front ++ (one ++ back) → length one ≡ 1 → IsCipherOf ctx written → written.room ≡ (cipher_at one 0).room
     → ResultHasParts op (λ r. other_at front back (slice_index plan r)) written
-    → ResultCarries n ctx op plains (λ r. other_at front back (slice_index plan r)) written
+    → ResultCarries n ctx told op plains (λ r. other_at front back (slice_index plan r)) written
     → OnOperands op (λ r. slice_index plan r ≢ length front)
-    → StepDone n ctx op plan plains (length front) old (front ++ (set one 0 written ++ back))
-step_done n ctx op plan plains old front [] back written is one of_context room parts carries apart = absurd (omega (arith, one))
-step_done n ctx op plan plains old front (x ∷ y ∷ rest) back written is one of_context room parts carries apart = absurd (omega (arith, one))
-step_done n ctx op plan plains old front (x ∷ []) back written is one of_context room parts carries apart = rw is (record {
+    → StepDone n ctx told op plan plains (length front) old (front ++ (set one 0 written ++ back))
+step_done n ctx told op plan plains old front [] back written is one of_context room parts carries apart = absurd (omega (arith, one))
+step_done n ctx told op plan plains old front (x ∷ y ∷ rest) back written is one of_context room parts carries apart = absurd (omega (arith, one))
+step_done n ctx told op plan plains old front (x ∷ []) back written is one of_context room parts carries apart = rw is (record {
   size = length-append front (written ∷ back) ∙ sym (length-append front (x ∷ back));
   others = λ p other. other_is front back written p other ∙ sym (other_is front back x p other);
   of_context = subst (IsCipherOf ctx) (sym here) of_context;
   room = ap (λ (c : CipherValue). c.room) here ∙ room ∙ ap (λ (c : CipherValue). c.room) (sym (get_or-append_seam front x back no_cipher));
   parts = λ counts hold. ap (λ (c : CipherValue). c.parts) here ∙ parts counts (on_operands op _ _
       (λ r both. ap (λ (c : CipherValue). c.parts) (sym (other_is front back x (slice_index plan r) both.1)) ∙ both.0) (on_both op _ _ hold apart));
-  carries = λ s lists values bounds plain hold. moved n ctx s _ _ (cipher_at (front ++ written ∷ back) (length front)) written here (carries s lists values bounds plain (on_operands op _ _
+  carries = λ s lists values bounds premise plain hold. moved n ctx s _ _ (cipher_at (front ++ written ∷ back) (length front)) written here (carries s lists values bounds premise plain (on_operands op _ _
       (λ r both. moved n ctx s _ _ (other_at front back (slice_index plan r)) _ (sym (other_is front back x (slice_index plan r) both.1)) both.0) (on_both op _ _ hold apart)));
 })
   where

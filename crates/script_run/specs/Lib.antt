@@ -2,4 +2,5 @@ pub mod Registers
 pub mod Places
 pub mod Workspaces
 pub mod Runs
+pub mod Premises
 pub mod Steps

@@ -1,23 +1,7 @@
 -- When a register of a script is live, and plans that give each register a place.
-use Rattle.std.specs.Prelude.{◌≡◌, ◌≢◌, ◌⊎◌, ℕ, ◌+◌, ◌<◌, ◌≤◌, List, length, slice_index, slice_get, Some}
-use Rattle.script_text.specs.declared.script.Op.{Op}
-use Rattle.script_text.specs.declared.script.Op.TheVariants.{Add, Sub, Neg, AddPlain, SubPlain, MulPlain, MulConst, Mul, Relin, Turn, Swap}
+use Rattle.std.specs.Prelude.{◌≡◌, ◌≢◌, ◌⊎◌, ℕ, ◌+◌, ◌<◌, ◌≤◌, List, length, slice_index, slice_get, Some, Contains}
 use Rattle.script_text.specs.declared.script.Step.{Step}
-use Rattle.script_text.specs.Scripts.{Script, cipher_inputs}
-
--- whether an operation reads a register
-abbrev pub Reads : Op → ℕ → Type 0
-Reads (Add a b) r = (r ≡ a) ⊎ (r ≡ b)
-Reads (Sub a b) r = (r ≡ a) ⊎ (r ≡ b)
-Reads (Neg a) r = r ≡ a
-Reads (AddPlain a p) r = r ≡ a
-Reads (SubPlain a p) r = r ≡ a
-Reads (MulPlain a p) r = r ≡ a
-Reads (MulConst a k) r = r ≡ a
-Reads (Mul a b) r = (r ≡ a) ⊎ (r ≡ b)
-Reads (Relin a) r = r ≡ a
-Reads (Turn a k) r = r ≡ a
-Reads (Swap a) r = r ≡ a
+use Rattle.script_text.specs.Scripts.{Script, cipher_inputs, operands_of}
 
 -- the number of cipher inputs, which are the first registers
 abbrev pub input_count : Script → ℕ
@@ -25,7 +9,7 @@ input_count script = length (cipher_inputs script.inputs)
 
 -- step i or a later one reads the register
 abbrev pub IsReadFrom : Script → ℕ → ℕ → Type 0
-IsReadFrom script i r = (j : ℕ) × (step : Step) × (i ≤ j) × (slice_get script.steps j ≡ Some step) × Reads step.op r
+IsReadFrom script i r = (j : ℕ) × (step : Step) × (i ≤ j) × (slice_get script.steps j ≡ Some step) × Contains (operands_of step.op) r
 
 -- The register is live before step i, or after the last step if there is no step i: it was defined before, and it is put out or read
 -- by step i or a later one. Before step 0 every input is live.

@@ -1,12 +1,9 @@
 -- What the ciphers of a run carry.
-use Rattle.std.specs.Prelude.{◌≡◌, ℕ, ◌*◌, ◌<◌, ◌≤◌, ℤ, List, [], length, slice_index, slice_index_or, All}
-use Rattle.ring_law.specs.Moduli.{product}
+use Rattle.std.specs.Prelude.{◌≡◌, ℕ, ◌<◌, ℤ, List, [], length, slice_index, slice_index_or}
 use Rattle.ring_law.specs.Rows.{natural_polynomial}
 use Rattle.bfv_model.specs.Slots.{slots_of}
 use Rattle.script_text.specs.Scripts.{Script, plain_inputs, is_cipher, is_plain}
 use Rattle.script_text.specs.Value.{lists_of}
-use Rattle.noise_check.specs.ExactBounds.{exact_bounds}
-use Rattle.bfv_params.specs.Moduli.{data_at}
 use Rattle.bfv_params.specs.Values.{CipherValue, ContextValue}
 use Rattle.bfv_params.specs.Ciphers.{HoldsIn}
 use Rattle.script_run.specs.Registers.{input_count}
@@ -28,7 +25,3 @@ pub record InputsCarry (n : ℕ) (ctx : ContextValue) (s : ℕ → ℤ) (script 
       → Carries n ctx s (cipher_at places (slice_index plan r)) (slice_index_or (lists_of is_cipher script.inputs lists) r []) (slice_index bounds r)
   pub values : (p : ℕ) → p < length (plain_inputs script.inputs)
       → slice_index_or plains p [] ≡ slice_index_or (lists_of is_plain script.inputs lists) p []
-
--- the noise of no register is beyond a quarter of the ciphertext modulus
-abbrev pub IsQuiet : ContextValue → Script → List ℕ → Type 0
-IsQuiet ctx script bounds = All (λ bound. 4 * bound ≤ product (data_at ctx.set ctx.level)) (exact_bounds script bounds)

@@ -1,12 +1,14 @@
 //! One step of a run.
 
 ghost use Rattle.std.specs.Prelude.{◌≡◌, ◌≢◌, ℕ, ◌+◌, ◌*◌, ◌-◌, ◌<◌, ◌≤◌, [], length, slice_index, slice_index_or, true};
-ghost use Rattle.set_table.specs.Sets.{aux_of, degree_of, plain_of};
+ghost use Rattle.set_table.specs.Sets.{degree_of, plain_of};
 ghost use Rattle.ring_law.specs.Rows.{IsReduced};
 ghost use Rattle.script_text.specs.Evaluating.{IsWithin};
 ghost use Rattle.bfv_params.specs.Ciphers.{IsCipherOf};
+ghost use Rattle.bfv_params.specs.Contexts.{scratch_rows_in};
 ghost use Rattle.script_text.specs.Scripts.{is_linear};
 ghost use Rattle.script_run.specs.Places.{cipher_at};
+ghost use Rattle.script_run.specs.Premises.{no_digits};
 ghost use Rattle.script_run.specs.Steps.{IsOther, OnOperands, OnPlain, ResultCarries, ResultHasParts, StepDone, other_at};
 
 use bfv_linear::{add, add_plain, mul_const, mul_plain, neg, sub, sub_plain};
@@ -51,11 +53,11 @@ fn operate<const N: usize>(
     requires operands { OnOperands op (λ r. IsCipherOf ctx.now (other_at front.now back.now (slice_index plan.now r))) }
     requires plains { OnPlain op (λ p. IsReduced N (plain_of (ctx.now).set) (slice_index_or plains.now p [])) }
     requires out { IsCipherOf ctx.now out.old }
-    requires scratch_rows { length scratch.old ≡ 8 * ((ctx.now).level + length (aux_of (ctx.now).set) + 2) }
+    requires scratch_rows { length scratch.old ≡ scratch_rows_in ctx.now }
     ensures of_context { IsCipherOf ctx.now out.new }
     ensures room { (out.new).room ≡ (out.old).room }
     ensures parts { ResultHasParts op (λ r. other_at front.now back.now (slice_index plan.now r)) out.new }
-    ensures carries { ResultCarries N ctx.now op plains.now (λ r. other_at front.now back.now (slice_index plan.now r)) out.new }
+    ensures carries { ResultCarries N ctx.now no_digits op plains.now (λ r. other_at front.now back.now (slice_index plan.now r)) out.new }
     ensures scratch_rows { length scratch.new ≡ length scratch.old }
 {
     match op {
@@ -107,8 +109,8 @@ pub fn step<const N: usize>(
     requires there { OnOperands op (λ r. (slice_index plan.now r < length ciphers.old) × (slice_index plan.now r ≢ out)) }
     requires ciphers { (p : ℕ) → p < length ciphers.old → IsCipherOf ctx.now (cipher_at ciphers.old p) }
     requires plains { OnPlain op (λ p. IsReduced N (plain_of (ctx.now).set) (slice_index_or plains.now p [])) }
-    requires scratch_rows { length scratch.old ≡ 8 * ((ctx.now).level + length (aux_of (ctx.now).set) + 2) }
-    ensures done { StepDone N ctx.now op plan.now plains.now out ciphers.old ciphers.new }
+    requires scratch_rows { length scratch.old ≡ scratch_rows_in ctx.now }
+    ensures done { StepDone N ctx.now no_digits op plan.now plains.now out ciphers.old ciphers.new }
     ensures scratch_rows { length scratch.new ≡ length scratch.old }
 {
     let (front, rest) = ciphers.split_at_mut(out);

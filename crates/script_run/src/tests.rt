@@ -4,9 +4,10 @@ ghost use Rattle.std.specs.Prelude.{◌≡◌, ℕ, ◌+◌, ◌<◌, ◌≤◌,
 ghost use Rattle.ring_law.specs.Rows.{IsReduced};
 ghost use Rattle.bfv_params.specs.Moduli.{data_at};
 ghost use Rattle.set_table.specs.Sets.{data_of, plain_of};
-ghost use Rattle.script_text.specs.Scripts.{Script, plain_inputs, is_linear};
+ghost use Rattle.script_text.specs.Scripts.{plain_inputs, is_linear};
 ghost use Rattle.bfv_params.specs.Ciphers.{IsCipherOf};
-ghost use Rattle.script_run.specs.Workspaces.{MadeFor, input_of};
+ghost use Rattle.script_run.specs.Registers.{input_count};
+ghost use Rattle.script_run.specs.Workspaces.{MadeFor, SameShape, input_of};
 
 use crate::{Workspace, first_nonlinear};
 use bfv_params::{Cipher, Context};
@@ -118,9 +119,8 @@ fn fill_input<const N: usize>(ctx: &Context<N>, space: &mut Workspace<N>, input:
     requires parts { (r : ℕ) → r < (space.old).inputs → (input_of space.old r).parts ≡ 2 }
     ensures of_context { (r : ℕ) → r < (space.new).inputs → IsCipherOf ctx.now (input_of space.new r) }
     ensures parts { (r : ℕ) → r < (space.new).inputs → (input_of space.new r).parts ≡ 2 }
-    ensures inputs { (space.new).inputs ≡ (space.old).inputs }
+    ensures shape { SameShape space.old space.new }
     ensures plains { (space.new).plains ≡ (space.old).plains }
-    ensures made { (script : Script) → MadeFor script space.old → MadeFor script space.new }
 {
     let q = ctx.data_moduli()[0].value();
     fill(space.cipher_slot(input), &multiples(factor, q));
@@ -155,7 +155,7 @@ fn fill_plain_input<const N: usize>(ctx: &Context<N>, space: &mut Workspace<N>)
     ensures reduced { IsReduced N (plain_of (ctx.now).set) (slice_index_or (space.new).plains 0 []) }
     ensures of_context { (r : ℕ) → r < (space.new).inputs → IsCipherOf ctx.now (input_of space.new r) }
     ensures parts { (r : ℕ) → r < (space.new).inputs → (input_of space.new r).parts ≡ 2 }
-    ensures made { (script : Script) → MadeFor script space.old → MadeFor script space.new }
+    ensures shape { SameShape space.old space.new }
 {
     fill_plain(ctx.plain_modulus().value(), space.plain_slot(0));
 }
@@ -174,7 +174,7 @@ fn check_result<const N: usize>(
     requires made { MadeFor script.now space.old }
     requires linear { All (λ step. is_linear step.op ≡ true) script.now.steps }
     requires ciphers { (r : ℕ) → r < (space.old).inputs → IsCipherOf ctx.now (input_of space.old r) }
-    requires parts { (r : ℕ) → r < (space.old).inputs → (input_of space.old r).parts ≡ 2 }
+    requires parts { (r : ℕ) → r < input_count script.now → (input_of space.old r).parts ≡ 2 }
     requires plains { (p : ℕ) → p < length (plain_inputs script.now.inputs) → IsReduced N (plain_of (ctx.now).set) (slice_index_or (space.old).plains p []) }
 {
     let mut keys = UnreadableKey { set: ctx.set() };

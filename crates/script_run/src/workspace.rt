@@ -3,7 +3,6 @@
 ghost use Rattle.std.specs.Prelude.{◌≡◌, ℕ, ◌+◌, ◌<◌, ◌≤◌, ℤ, List, [], length, slice_index, slice_index_or, slice_get, slice_set, Some, true, false, All, IfOk, OnOk, OnErr};
 ghost use Rattle.std.specs.Borrow.{sem, Lends, Array, u64};
 ghost use Rattle.set_table.specs.Sets.{data_of, plain_of};
-ghost use Rattle.ring_law.specs.Polynomials.{AllWithin};
 ghost use Rattle.ring_law.specs.Rows.{IsReduced};
 ghost use Rattle.script_text.specs.Scripts.{parts_of, plain_inputs, is_linear};
 ghost use Rattle.script_text.specs.Value.{value_of};
@@ -14,8 +13,9 @@ ghost use Rattle.bfv_params.specs.Ciphers.{IsCipherOf};
 ghost use Rattle.key_switch.specs.Providers.{Digits, FaultCause, IsThere, Keeps};
 ghost use Rattle.script_run.specs.Registers.{input_count};
 ghost use Rattle.script_run.specs.Places.{cipher_at};
-ghost use Rattle.script_run.specs.Workspaces.{MadeFor, input_of, output_of};
-ghost use Rattle.script_run.specs.Runs.{Carries, InputsCarry, IsQuiet};
+ghost use Rattle.script_run.specs.Workspaces.{MadeFor, SameShape, input_of, output_of};
+ghost use Rattle.script_run.specs.Runs.{Carries, InputsCarry};
+ghost use Rattle.script_run.specs.Premises.{RunPremise};
 ghost use Rattle.script_run.specs.contracts.workspace.Workspace.{the_row};
 
 use crate::run::run;
@@ -48,9 +48,9 @@ impl<const N: usize> Model for Workspace<N> {
 
     ghost Value = { WorkspaceValue };
 
-    ghost view = { λ w. record { set = w.set; inputs = w.inputs; plan = w.plan.items; places = w.ciphers.items; plains = w.plains.items; done = w.done; at = w.place } };
+    ghost view = { λ w. record { set = w.set; inputs = w.inputs; plan = w.plan.items; places = w.ciphers.items; plains = w.plains.items; done = w.done; place = w.place } };
 
-    ghost invariant = { λ w. IsWorkspace N (record { set = w.set; inputs = w.inputs; plan = w.plan.items; places = w.ciphers.items; plains = w.plains.items; done = w.done; at = w.place }) (length w.scratch) };
+    ghost invariant = { λ w. IsWorkspace N (record { set = w.set; inputs = w.inputs; plan = w.plan.items; places = w.ciphers.items; plains = w.plains.items; done = w.done; place = w.place }) (length w.scratch) };
 }
 
 impl<const N: usize> Workspace<N> {
@@ -61,6 +61,7 @@ impl<const N: usize> Workspace<N> {
         requires level { (ctx.now).level ≡ length (data_of (ctx.now).set) }
         ensures made { IfOk result (MadeFor script.now) }
         ensures count { IfOk result (λ w. length w.places ≡ input_count script.now + length script.now.steps + 1) }
+        ensures input_count { IfOk result (λ w. w.inputs ≡ input_count script.now) }
         ensures inputs { IfOk result (λ w. (r : ℕ) → r < w.inputs → input_of w r ≡ zero_cipher N (ctx.now).set (ctx.now).level) }
         ensures not_done { IfOk result (λ w. w.done ≡ false) }
     {
@@ -116,7 +117,7 @@ impl<const N: usize> Workspace<N> {
         requires made { MadeFor script.now self.old }
         requires linear { All (λ step. is_linear step.op ≡ true) script.now.steps }
         requires ciphers { (r : ℕ) → r < (self.old).inputs → IsCipherOf ctx.now (input_of self.old r) }
-        requires parts { (r : ℕ) → r < (self.old).inputs → (input_of self.old r).parts ≡ 2 }
+        requires parts { (r : ℕ) → r < input_count script.now → (input_of self.old r).parts ≡ 2 }
         requires plains { (p : ℕ) → p < length (plain_inputs script.now.inputs) → IsReduced N (plain_of (ctx.now).set) (slice_index_or (self.old).plains p []) }
         requires keys_set { (K.state keys.old).set ≡ (ctx.now).set }
         ensures keeps { Keeps (K.state keys.old) (K.state keys.new) }
@@ -124,27 +125,22 @@ impl<const N: usize> Workspace<N> {
         ensures cause { FaultCause (K.state keys.old) (K.state keys.new) result }
         ensures tells { (digits : Digits) → K.Tells keys.old digits → K.Tells keys.new digits }
         ensures there { (digits : Digits) → K.Tells keys.old digits → IsThere result }
-        ensures set { (self.new).set ≡ (self.old).set }
-        ensures inputs { (self.new).inputs ≡ (self.old).inputs }
-        ensures plan { (self.new).plan ≡ (self.old).plan }
-        ensures count { length (self.new).places ≡ length (self.old).places }
-        ensures plain_count { length (self.new).plains ≡ length (self.old).plains }
-        ensures ciphers { (r : ℕ) → r < (self.new).inputs → IsCipherOf ctx.now (input_of self.new r) }
+        ensures shape { SameShape self.old self.new }
         ensures rooms { (p : ℕ) → (cipher_at (self.new).places p).room ≡ (cipher_at (self.old).places p).room }
+        ensures ciphers { (r : ℕ) → r < (self.new).inputs → IsCipherOf ctx.now (input_of self.new r) }
         ensures done { OnOk result ((self.new).done ≡ true) }
         ensures not_done { OnErr result ((self.new).done ≡ false) }
         ensures of_context { OnOk result (IsCipherOf ctx.now (output_of self.new)) }
         ensures parts { OnOk result ((output_of self.new).parts ≡ slice_index (parts_of script.now.inputs script.now.steps) script.now.output) }
         ensures value { (s : ℕ → ℤ) (lists : List (List ℕ)) (bounds : List ℕ)
             → InputsCarry N ctx.now s script.now (self.old).plan (self.old).places (self.old).plains lists bounds
-            → AllWithin N 1 s → IsQuiet ctx.now script.now bounds
+            → RunPremise N ctx.now (K.Tells keys.old) s script.now bounds
             → OnOk result (Carries N ctx.now s (output_of self.new) (value_of script.now lists) (slice_index (exact_bounds script.now bounds) script.now.output)) }
     {
         self.done = false;
         self.place = run(
             ctx,
             &mut self.ciphers,
-            self.inputs,
             &self.plan,
             &self.plains,
             script,

@@ -10,12 +10,16 @@ use Rattle.bfv_params.specs.Ciphers.{IsCipherOf}
 use Rattle.script_text.specs.Value.{value_of}
 use Rattle.noise_check.specs.ExactBounds.{exact_bounds}
 use Rattle.key_switch.specs.Memory.{MemKeysValue}
-use Rattle.script_run.specs.Runs.{Carries, InputsCarry, IsQuiet}
+use Rattle.script_run.specs.Premises.{IsQuiet}
+use Rattle.script_run.specs.Registers.{input_count}
+use Rattle.script_run.specs.Runs.{Carries, InputsCarry}
 use Rattle.script_run.specs.Workspaces.{input_of, output_of, whole_context}
 use Rattle.command_model.specs.Plan.{stated_bounds}
+use Rattle.script_run.proofs.Plans.{still_made}
+use Rattle.script_run.proofs.Premises.{none_needed}
 use Rattle.bfv_commands.specs.BoundFiles.{MayBeBound}
 use Rattle.bfv_commands.specs.Filled.{AreListed}
-use Rattle.bfv_commands.proofs.Executing.{AreRead, inputs_apart, inputs_carry, owner_ternary, still_made, zero_of_context}
+use Rattle.bfv_commands.proofs.Executing.{AreRead, inputs_apart, inputs_carry, owner_ternary, zero_of_context}
 use Rattle.bfv_commands.proofs.execution.executed.Goals as goal
 
 pub fill_ciphers-requires : goal.fill_ciphers-requires
@@ -27,17 +31,24 @@ fill_ciphers-requires g c =
     let new = c.fill_plains.new.space in
     let of_set : new.set ≡ script.set = filled.set ∙ made.same_set in
     let context : c.in-Ok.ctx ≡ whole_context new.set = c.in-Ok.ensures ∙ ap whole_context (c.set-set.ensures.value ∙ sym of_set) in
-    let now = still_made script old new made filled.set filled.inputs filled.plan (ap length filled.places) filled.count in (
+    let inputs : new.inputs ≡ input_count script = filled.inputs ∙ c.in-Ok-new.ensures.input_count in
+    let now = still_made script old new made record {
+      set = filled.set;
+      inputs = filled.inputs;
+      plan = filled.plan;
+      count = ap length filled.places;
+      plain_count = filled.count;
+    } in (
       search rules,
       (
         c.requires.degree ∙ ap degree_of (sym of_set),
         (
-          c.requires.cipher_count ∙ sym now.inputs,
+          c.requires.cipher_count ∙ sym inputs,
           (
             subst (λ (z : SetName). All (MayBeBound z (length c.args.words.now)) c.args.ciphers.now) (sym of_set) c.requires.bound,
             (
               λ r below. zero_of_context g.row.N c.in-Ok.ctx old new r context filled.places filled.plan (c.in-Ok-new.ensures.inputs r (subst (λ (count : ℕ). r < count) filled.inputs below)),
-              inputs_apart script new now,
+              inputs_apart script new now inputs,
             ),
           ),
         ),
@@ -61,7 +72,21 @@ execute-requires g c =
     let context : ctx ≡ whole_context script.set = c.in-Ok.ensures ∙ ap whole_context c.set-set.ensures.value in
     let of_script : ctx.set ≡ script.set = ap (λ (x : ContextValue). x.set) context in
     let of_set : between.set ≡ script.set = filled.set ∙ made.same_set in
-    let between_made = still_made script old between made filled.set filled.inputs filled.plan (ap length filled.places) filled.count in (
+    let between_made = still_made script old between made record {
+      set = filled.set;
+      inputs = filled.inputs;
+      plan = filled.plan;
+      count = ap length filled.places;
+      plain_count = filled.count;
+    } in
+    let new_made = still_made script between new between_made record {
+      set = read.set;
+      inputs = read.inputs;
+      plan = read.plan;
+      count = read.places;
+      plain_count = ap length read.plains;
+    } in
+    let inputs : new.inputs ≡ input_count script = read.inputs ∙ filled.inputs ∙ c.in-Ok-new.ensures.input_count in (
       search rules,
       (
         search rules,
@@ -70,13 +95,13 @@ execute-requires g c =
           (
             ap (λ (x : ContextValue). x.level) context ∙ ap (λ (z : SetName). length (data_of z)) (sym of_script),
             (
-              still_made script between new between_made read.set read.inputs read.plan read.places (ap length read.plains),
+              new_made,
               (
                 c.requires.linear,
                 (
                   λ r below. subst (λ (x : ContextValue). IsCipherOf x (input_of new r)) (ap whole_context of_set ∙ sym context) (read.of_context r below),
                   (
-                    read.parts,
+                    λ r below. read.parts r (subst (λ (count : ℕ). r < count) (sym inputs) below),
                     (
                       λ p below. subst (λ (z : SetName). IsReduced n (plain_of z) (slice_index_or new.plains p [])) (made.same_set ∙ sym of_script)
                           (subst (λ (plains : List (List ℕ)). IsReduced n (plain_of old.set) (slice_index_or plains p [])) (sym read.plains)
@@ -112,7 +137,7 @@ returns-clause-told g c = λ files told contents held. record {
       let are_read : AreRead n script space words files count ciphers contents = record {
         degree = c.requires.degree;
         set = read.set ∙ filled.set ∙ made.same_set;
-        inputs = read.inputs ∙ filled.inputs ∙ made.inputs;
+        inputs = read.inputs ∙ filled.inputs ∙ c.in-Ok-new.ensures.input_count;
         counted = c.requires.cipher_count;
         bound = c.requires.bound;
         held = held;
@@ -122,6 +147,10 @@ returns-clause-told g c = λ files told contents held. record {
       (subst (AreListed operands places) (sym read.plains) filled.filled) listed sealed in
       subst (λ (x : ContextValue). Carries n x s (output_of c.execute.new.self) (value_of script lists) (slice_index (exact_bounds script bounds) script.output)) context
       (c.in-Ok-execute.ensures.value s lists bounds (subst (λ (x : ContextValue). InputsCarry n x s script space.plan space.places space.plains lists bounds) (sym context) carry)
-      (owner_ternary n script contents owner plains lists c.set-set.ensures.sound sealed) (subst (λ (x : ContextValue). IsQuiet x script bounds) (sym context) quiet));
+      record {
+        ternary = owner_ternary n script contents owner plains lists c.set-set.ensures.sound sealed;
+        quiet = subst (λ (x : ContextValue). IsQuiet x script bounds) (sym context) quiet;
+        keys = λ i key below. absurd (none_needed script i c.requires.linear below);
+      });
   err = tt;
 }

@@ -3,6 +3,7 @@ use Rattle.std.proofs.lemmas.List.{get_or_default}
 use Rattle.bfv_params.specs.Values.{CipherValue}
 use Rattle.bfv_params.specs.Ciphers.{IsCipherOf}
 use Rattle.script_run.specs.Places.{no_cipher}
+use Rattle.script_run.specs.Premises.{no_digits}
 use Rattle.script_run.specs.Steps.{StepDone}
 use Rattle.script_run.proofs.SplitPlaces.{apart_from, middle_all, on_operands, others_all, others_inside, step_done}
 use Rattle.script_run.proofs.step.step.Goals as goal
@@ -12,8 +13,8 @@ returns-clause-done g c =
     let split = c.split_at_mut-front in
     let rest = c.split_at_mut-one in
     let middle = rest.result.0.now in
-    subst (λ (out : ℕ). StepDone g.row.N c.args.ctx.now c.args.op c.args.plan.now c.args.plains.now out c.args.ciphers.now (split.result.0.now ++ (set middle 0 c.operate.new.out ++ rest.result.1.now))) split.ensures.front_len
-    (step_done g.row.N c.args.ctx.now c.args.op c.args.plan.now c.args.plains.now c.args.ciphers.now split.result.0.now middle rest.result.1.now c.operate.new.out (search rules) rest.ensures.front_len
+    subst (λ (out : ℕ). StepDone g.row.N c.args.ctx.now no_digits c.args.op c.args.plan.now c.args.plains.now out c.args.ciphers.now (split.result.0.now ++ (set middle 0 c.operate.new.out ++ rest.result.1.now))) split.ensures.front_len
+    (step_done g.row.N c.args.ctx.now no_digits c.args.op c.args.plan.now c.args.plains.now c.args.ciphers.now split.result.0.now middle rest.result.1.now c.operate.new.out (search rules) rest.ensures.front_len
     c.operate.ensures.of_context (c.operate.ensures.room ∙ ap (λ (x : CipherValue). x.room) (get_or_default middle 0 c.index-one-0.result no_cipher (omega (arith, rest.ensures.front_len))))
     c.operate.ensures.parts c.operate.ensures.carries
     (on_operands c.args.op _ _ (λ r there. there.1) (apart_from c.args.op c.args.plan.now (length c.args.ciphers.now) c.args.out (length split.result.0.now) (sym split.ensures.front_len) c.requires.there)))

@@ -1,10 +1,12 @@
-use Rattle.std.proofs.Common.{rules, arith, ◌≡◌, ℕ, [], length, slice_index_or, sym, ap, ◌∙◌, subst}
+use Rattle.std.proofs.Common.{rules, arith, ◌≡◌, ◌<◌, ℕ, [], length, slice_index_or, sym, ap, ◌∙◌, subst}
 use Rattle.set_table.specs.declared.SetName.{SetName}
 use Rattle.set_table.specs.Sets.{data_of, plain_of}
 use Rattle.ring_law.specs.Rows.{IsReduced}
 use Rattle.bfv_params.specs.Values.{CipherValue, ContextValue}
 use Rattle.script_text.specs.Scripts.{plain_inputs}
+use Rattle.script_run.specs.Registers.{input_count}
 use Rattle.script_run.proofs.Inputs.{inputs_counted}
+use Rattle.script_run.proofs.Plans.{still_made}
 use Rattle.script_run.proofs.tests.check_run.Goals as goal
 
 pub fill_input-requires : goal.fill_input-requires
@@ -59,6 +61,10 @@ check_result-requires g c =
     let three : c.inputs.result ≡ 3 = search rules in
     let counted = inputs_counted script.inputs in
     let one : length (plain_inputs script.inputs) ≡ 1 = omega (arith, counted, two, three, c.cipher_count.ensures, c.inputs.ensures.value) in
+    let one_filled = c.fill_input.ensures.shape in
+    let two_filled = c.fill_input-2.ensures.shape in
+    let filled = c.fill_plain_input.ensures.shape in
+    let inputs : c.fill_plain_input.new.space.inputs ≡ input_count script = filled.inputs ∙ two_filled.inputs ∙ one_filled.inputs ∙ c.in_ok-space.ensures.input_count in
     let set_is : ctx.set ≡ c.set-set.result = ap (λ (x : ContextValue). x.set) c.in_ok-ctx.ensures in (
       search rules,
       (
@@ -72,13 +78,13 @@ check_result-requires g c =
               (
                 ap (λ (x : ContextValue). x.level) c.in_ok-ctx.ensures ∙ ap (λ (s : SetName). length (data_of s)) (sym set_is),
                 (
-                  c.fill_plain_input.ensures.made script (c.fill_input-2.ensures.made script (c.fill_input.ensures.made script c.in_ok-space.ensures.made)),
+                  still_made script _ _ (still_made script _ _ (still_made script _ _ c.in_ok-space.ensures.made one_filled) two_filled) filled,
                   (
                     c.first_nonlinear.ensures.none (search rules),
                     (
                       c.fill_plain_input.ensures.of_context,
                       (
-                        c.fill_plain_input.ensures.parts,
+                        λ r below. c.fill_plain_input.ensures.parts r (subst (λ (count : ℕ). r < count) (sym inputs) below),
                         λ p below. subst (λ (j : ℕ). IsReduced g.row.N (plain_of ctx.set) (slice_index_or c.fill_plain_input.new.space.plains j [])) (omega (arith, below, one)) c.fill_plain_input.ensures.reduced,
                       ),
                     ),

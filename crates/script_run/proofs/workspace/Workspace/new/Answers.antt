@@ -22,7 +22,6 @@ returns-clause-made g c =
     let registers : c.cipher_count-inputs.result + c.steps.result ≡ input_count script + length script.steps = ap₂ (λ (a b : ℕ). a + b) c.cipher_count-inputs.ensures c.steps.ensures.value in
     record {
       same_set = c.set.ensures.value ∙ sym c.requires.same_set;
-      inputs = c.cipher_count-inputs.ensures;
       plan = own_plan script c.in_ok-own_places.field-0.items _ (length c.in_ok-zero_ciphers.field-0.items) registers c.in_ok-own_places.ensures.count c.in_ok-own_places.ensures.each c.in_ok-zero_ciphers.ensures.count;
       plains = omega (arith, c.in_ok-vec.ensures.len, c.cipher_count-inputs.ensures, c.inputs.ensures.value);
     }
