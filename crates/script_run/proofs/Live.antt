@@ -19,14 +19,14 @@ all_of : {P : ℕ → Type 0} (xs : List ℕ) → ((x : ℕ) → Contains xs x �
 all_of [] each = tt
 all_of (x ∷ xs) each = (each x (0, omega arith, refl), all_of xs (λ y (i, below, is). each y (suc i, omega (arith, below), is)))
 
-one_of : {P : ℕ → Type 0} (xs : List ℕ) (x : ℕ) → AllByRecursion P xs → Contains xs x → P x
-one_of [] x all (i, below, is) = absurd (omega (arith, below))
-one_of {P} (y ∷ xs) x all (zero, below, is) = subst P is all.0
-one_of {P} (y ∷ xs) x all (suc i, below, is) = one_of {P} xs x all.1 (i, omega (arith, below), is)
+one_of : (P : ℕ → Type 0) (xs : List ℕ) (x : ℕ) → AllByRecursion P xs → Contains xs x → P x
+one_of P [] x all (i, below, is) = absurd (omega (arith, below))
+one_of P (y ∷ xs) x all (zero, below, is) = subst P is all.0
+one_of P (y ∷ xs) x all (suc i, below, is) = one_of P xs x all.1 (i, omega (arith, below), is)
 
 pub all_weaker : {P Q : ℕ → Type 0} (xs : List ℕ) → ((x : ℕ) → P x → Q x) → AllByRecursion P xs → AllByRecursion Q xs
 all_weaker [] weaker all = tt
-all_weaker {P} {Q} (x ∷ xs) weaker all = (weaker x all.0, all_weaker {P} {Q} xs weaker all.1)
+all_weaker {P} {Q} (x ∷ xs) weaker all = (weaker x all.0, all_weaker {P = P} {Q = Q} xs weaker all.1)
 
 some_weaker : {P Q : ℕ → Type 0} (found : Option ℕ) → ((x : ℕ) → P x → Q x) → IfSome found P → IfSome found Q
 some_weaker None weaker some = tt
@@ -34,26 +34,25 @@ some_weaker (Some x) weaker some = weaker x some
 
 -- a fact of each register that an operation reads is one of its operands
 pub on_reads : (op : Op) (P : ℕ → Type 0) → ((r : ℕ) → Contains (operands_of op) r → P r) → OnOperands op P
-on_reads op P each = all_of {P} (operands_of op) each
+on_reads op P each = all_of {P = P} (operands_of op) each
 
 -- the same among more plain inputs and registers
 pub within_more : (t plains registers more others : ℕ) (op : Op) → plains ≤ more → registers ≤ others → IsWithin t plains registers op → IsWithin t more others op
-within_more t plains registers more others op p r within =
-    (
-      all_weaker {λ x. x < registers} {λ x. x < others} (operands_of op) (λ x below. omega (arith, below, r)) within.0,
-      some_weaker {λ x. x < plains} {λ x. x < more} (plain_operand_of op) (λ x below. omega (arith, below, p)) within.1,
-      within.2,
-    )
+within_more t plains registers more others op p r within = (
+  all_weaker {P = λ x. x < registers} {Q = λ x. x < others} (operands_of op) (λ x below. omega (arith, below, r)) within.0,
+  some_weaker {P = λ x. x < plains} {Q = λ x. x < more} (plain_operand_of op) (λ x below. omega (arith, below, p)) within.1,
+  within.2,
+)
 
 -- a fact of each plain input is one of that which an operation reads
 pub on_plain : (t plains registers : ℕ) (op : Op) (P : ℕ → Type 0) → IsWithin t plains registers op → ((p : ℕ) → p < plains → P p) → OnPlain op P
-on_plain t plains registers op P within each = some_weaker {λ x. x < plains} {P} (plain_operand_of op) each within.1
+on_plain t plains registers op P within each = some_weaker {P = λ x. x < plains} {Q = P} (plain_operand_of op) each within.1
 
 -- what a step reads is live before it
 pub operand_live : (script : Script) (i : ℕ) (op : Op) (step : Step) (t plains r : ℕ) → slice_get script.steps i ≡ Some step → op ≡ step.op
     → IsWithin t plains (input_count script + i) op → Contains (operands_of op) r → Live script i r
 operand_live script i op step t plains r is same within reads = record {
-  defined = one_of {λ x. x < input_count script + i} (operands_of op) r within.0 reads;
+  defined = one_of (λ x. x < input_count script + i) (operands_of op) r within.0 reads;
   needed = inr (inr (i, step, omega arith, is, subst (λ (o : Op). Contains (operands_of o) r) same reads));
 }
 

@@ -16,14 +16,14 @@ use Rattle.script_run.proofs.Results.{moved}
 
 -- what holds of each operand carries over
 pub on_operands : (op : Op) (P Q : ℕ → Type 0) → ((r : ℕ) → P r → Q r) → OnOperands op P → OnOperands op Q
-on_operands op P Q weaker all = all_weaker {P} {Q} (operands_of op) weaker all
+on_operands op P Q weaker all = all_weaker {P = P} {Q = Q} (operands_of op) weaker all
 
-both_of : {P Q : ℕ → Type 0} (xs : List ℕ) → AllByRecursion P xs → AllByRecursion Q xs → AllByRecursion (λ x. P x × Q x) xs
-both_of [] p q = tt
-both_of {P} {Q} (x ∷ xs) p q = ((p.0, q.0), both_of {P} {Q} xs p.1 q.1)
+both_of : (P Q : ℕ → Type 0) (xs : List ℕ) → AllByRecursion P xs → AllByRecursion Q xs → AllByRecursion (λ x. P x × Q x) xs
+both_of P Q [] p q = tt
+both_of P Q (x ∷ xs) p q = ((p.0, q.0), both_of P Q xs p.1 q.1)
 
 pub on_both : (op : Op) (P Q : ℕ → Type 0) → OnOperands op P → OnOperands op Q → OnOperands op (λ r. P r × Q r)
-on_both op P Q p q = both_of {P} {Q} (operands_of op) p q
+on_both op P Q p q = both_of P Q (operands_of op) p q
 
 after : (front back : List CipherValue) (x : CipherValue) (p : ℕ) → length front < p → cipher_at (front ++ x ∷ back) p ≡ cipher_at back (p - (length front + 1))
 after front back x p above =
