@@ -1,12 +1,16 @@
 use Rattle.std.proofs.Common.{◌≡◌, map, sym, ◌∙◌, ap}
 use Rattle.std.specs.Prelude.{Some}
+use Rattle.std.proofs.lemmas.Result.{IfErr-weaker}
 use Rattle.std.specs.String.{string_bytes}
 use Rattle.bfv_model.specs.DrawnFiles.{drawn_secret_file}
 use Rattle.set_table.specs.Sets.{set_named}
+use Rattle.command_words.specs.Form.{IsOperand}
 use Rattle.command_words.specs.Line.{word_at}
 use Rattle.command_words.specs.declared.form.Form.TheVariants as form
 use Rattle.command_words.proofs.Words.{secret_names_set}
 use Rattle.command_model.specs.Plan.{file_with, seed_word}
+use Rattle.bfv_commands.specs.Stages.{Caused}
+use Rattle.bfv_commands.proofs.Decryptions.{caused_as, caused_behind}
 use Rattle.bfv_commands.proofs.Planning.{secret_planned}
 use Rattle.bfv_commands.proofs.Running.{ran_written}
 use Rattle.bfv_commands.proofs.secret.secret.Goals as goal
@@ -27,3 +31,14 @@ returns-clause-told g c = λ files told.
     let wrote = c.write_drawn.ensures.told files (c.in-Ok.ensures.keeps.files ∙ told) in
     ran_written form.Secret words files _ c.name_of-2.result.now (file_with (drawn_secret_file c.in-Some.set (seed_word c.in-Ok.seed))) c.write_drawn.result
     (ap Some (sym c.name_of-2.ensures)) (secret_planned words files c.in-Some.set c.in-Ok.seed set seed) wrote
+
+pub returns-clause-cause : goal.returns-clause-cause
+returns-clause-cause g c =
+    let named = IsOperand form.Secret 4 in
+    let old = g.S.Store.state c.args.store.now in
+    let between = g.S.Store.state c.read_seed.new.store in
+    let new = g.S.Store.state c.write_drawn.new.store in
+    IfErr-weaker c.write_drawn.result (Caused (λ w. ⊥) between new) (Caused named old new)
+    (λ status cause. caused_behind named old between new status c.in-Ok.ensures.keeps
+    (caused_as (λ w. ⊥) named between new status (λ w never. absurd never) cause))
+    c.write_drawn.ensures.cause
