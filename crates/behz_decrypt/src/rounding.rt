@@ -55,8 +55,8 @@ impl Rounding {
         Rounding {
             plain,
             gamma,
-            plain_factor: negative_inverse(base, &plain),
-            gamma_factor: negative_inverse(base, &gamma),
+            plain_factor: negative_inverse_of_product(base, &plain),
+            gamma_factor: negative_inverse_of_product(base, &gamma),
             gamma_inverse: plain.factor(plain.inverse(gamma.value()).unwrap()),
         }
     }
@@ -92,7 +92,7 @@ fn less_error(plain: &Modulus, gamma: &Modulus, quotient: u64, error: u64) -> u6
 }
 
 /// Minus the inverse of the product of the base, modulo `m`.
-fn negative_inverse(base: &Base, m: &Modulus) -> Factor
+fn negative_inverse_of_product(base: &Base, m: &Modulus) -> Factor
     requires { IsGcd (product base.now) m.now 1 }
     ensures below { result.w < m.now }
     ensures shoup { result.shoup ≡ shoup_of m.now result.w }

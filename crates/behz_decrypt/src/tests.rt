@@ -107,7 +107,6 @@ fn set_reduced<const N: usize>(ctx: &Context<N>, cipher: &mut Cipher<N>, i: usiz
     ensures level { (cipher.new).level ≡ (cipher.old).level }
     ensures parts { (cipher.new).parts ≡ (cipher.old).parts }
 {
-    let _set = ctx.set();
     let moduli = ctx.data_moduli();
     let m = moduli[i % moduli.len()];
     let mut residues = [0; N];
@@ -122,7 +121,6 @@ fn fill_cipher<const N: usize>(seed: u64, ctx: &Context<N>, cipher: &mut Cipher<
     ensures set { (cipher.new).set ≡ (cipher.old).set }
     ensures level { (cipher.new).level ≡ (cipher.old).level }
 {
-    let _set = ctx.set();
     let mut row = [0; N];
     let mut word = seed;
     let count = cipher.parts() as usize * ctx.data_moduli().len();
@@ -158,7 +156,6 @@ fn constant_cipher<const N: usize>(
     ensures set { IfOk result (λ c. c.set ≡ (ctx.now).set) }
     ensures level { IfOk result (λ c. c.level ≡ (ctx.now).level) }
 {
-    let _set = ctx.set();
     let mut cipher = Cipher::new(alloc, ctx)?;
     let mut row = [0; N];
     for i in 0..words.len().min(ctx.data_moduli().len()) {
@@ -171,10 +168,9 @@ fn constant_cipher<const N: usize>(
 fn filled_secret<const N: usize>(alloc: Global, ctx: &Context<N>) -> Result<Secret<N>, Fail>
     ensures { IfOk result (λ s. s.set ≡ (ctx.now).set) }
 {
-    let _set = ctx.set();
+    let mut secret = Secret::new(alloc, ctx)?;
     let mut small = [0; N];
     fill_small(1, &mut small);
-    let mut secret = Secret::new(alloc, ctx)?;
     secret.set(&small);
     Ok(secret)
 }
@@ -200,7 +196,6 @@ fn check_decrypted<const N: usize>(
     requires secret_set { (secret.now).set ≡ (ctx.now).set }
     requires level { (cipher.now).level ≡ (ctx.now).level }
 {
-    let _set = ctx.set();
     let mut row = [0; N];
     let mut scratch = PolyBuf::new(alloc, ctx.scratch_rows())?;
     decrypt(ctx, secret, cipher, &mut row, &mut scratch);

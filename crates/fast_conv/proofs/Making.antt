@@ -8,9 +8,11 @@ use Rattle.ring_law.proofs.Congruence.{Congruent-equal, Congruent-mul, Congruent
 use Rattle.ring_law.proofs.Residues.{Congruent-mod, residue_equal}
 use Rattle.ring_law.proofs.WholeNumbers.{int_one_mul}
 use Rattle.ring_law.proofs.RingSolver.{identity3, ◌⊗◌}
+use Rattle.set_table.specs.Sets.{m_tilde}
 use Rattle.word_mod.specs.Moduli.{IsModulus}
 use Rattle.res_base.specs.Bases.{IsBase}
 use Rattle.fast_conv.specs.Rows.{AreCorrections, AreInputs, AreOutputs, HasInputFactor, Input, IsKeptAt, IsOutputOf, IsRowOf, Kept, Output, input_moduli, kept_moduli, no_input, no_kept, no_output, output_moduli}
+use Rattle.fast_conv.specs.declared.outputs.RowConstants.{RowConstants}
 use Rattle.fast_conv.proofs.Lists.{each_pushed}
 
 -- ---- inputs
@@ -53,15 +55,15 @@ inputs_all qs scale i rows base end so_far = record {
 
 -- ---- outputs
 -- an output, from the words that it is made of
-pub IsOutputOf-from : (qs : List ℕ) (divisor : ℕ) (sign by_last by_all : ℤ) (m scale last_factor added : ℕ) → Congruent m (pos divisor *ℤ pos scale) sign
-    → Congruent m (pos divisor *ℤ pos last_factor) by_last → Congruent m (pos divisor *ℤ pos added) by_all
-    → (row : Output) → IsRowOf qs m scale last_factor added row → IsOutputOf qs divisor sign by_last by_all row
-IsOutputOf-from qs divisor sign by_last by_all m scale last_factor added signs lasts alls row of = record {
+pub IsOutputOf-from : (qs : List ℕ) (divisor : ℕ) (sign by_last by_all : ℤ) (m : ℕ) (c : RowConstants) → Congruent m (pos divisor *ℤ pos c.scale) sign
+    → Congruent m (pos divisor *ℤ pos c.last_factor) by_last → Congruent m (pos divisor *ℤ pos c.added) by_all
+    → (row : Output) → IsRowOf qs m c row → IsOutputOf qs divisor sign by_last by_all row
+IsOutputOf-from qs divisor sign by_last by_all m c signs lasts alls row of = record {
   modulus = subst IsModulus (sym of.same) of.is_modulus;
   count = of.count;
   factors = λ i l. here (pos divisor *ℤ pos (slice_index row.factors i)) (sign *ℤ pos (product_of_others qs i))
-      (Congruent-trans m (Congruent-mul m (Congruent-refl m (pos divisor)) (Congruent-trans m (Congruent-equal m (ap pos (of.factors i l))) (Congruent-mod m (scale * product_of_others qs i) positive)))
-      (Congruent-trans m (Congruent-equal m (identity3 (λ d s o. d ⊗ (s ⊗ o)) (λ d s o. (d ⊗ s) ⊗ o) refl (pos divisor) (pos scale) (pos (product_of_others qs i))))
+      (Congruent-trans m (Congruent-mul m (Congruent-refl m (pos divisor)) (Congruent-trans m (Congruent-equal m (ap pos (of.factors i l))) (Congruent-mod m (c.scale * product_of_others qs i) positive)))
+      (Congruent-trans m (Congruent-equal m (identity3 (λ d s o. d ⊗ (s ⊗ o)) (λ d s o. (d ⊗ s) ⊗ o) refl (pos divisor) (pos c.scale) (pos (product_of_others qs i))))
       (Congruent-mul m signs (Congruent-refl m (pos (product_of_others qs i))))));
   last_factor = here (pos divisor *ℤ pos row.last_factor) by_last (subst (λ w. Congruent m (pos divisor *ℤ pos w) by_last) (sym of.last) lasts);
   added = here (pos divisor *ℤ pos row.added) by_all (subst (λ w. Congruent m (pos divisor *ℤ pos w) by_all) (sym of.constant) alls);
@@ -71,7 +73,7 @@ IsOutputOf-from qs divisor sign by_last by_all m scale last_factor added signs l
     positive = let three = of.is_modulus.from_three in omega arith
 
     here : (x y : ℤ) → Congruent m x y → residue row.modulus x ≡ residue row.modulus y
-    here x y c = subst (λ p. residue p x ≡ residue p y) (sym of.same) (residue_equal m x y positive c)
+    here x y same = subst (λ p. residue p x ≡ residue p y) (sym of.same) (residue_equal m x y positive same)
 
 -- the first i outputs
 pub record OutputsSoFar (qs ps : List ℕ) (divisor : ℕ) (sign last added : ℤ) (i : ℕ) (rows : List Output) : Type 0 where
@@ -109,17 +111,17 @@ at_own_moduli P qs ps inputs outputs read written holds = subst (λ z. P z (outp
 -- the first i corrections
 pub record CorrectionsSoFar (qs : List ℕ) (i : ℕ) (words : List ℕ) : Type 0 where
   pub count : length words ≡ i
-  pub each : (j : ℕ) → j < i → (get_or words j 0 * slice_index qs j + 1) % 2 ^ 32 ≡ 0
+  pub each : (j : ℕ) → j < i → (get_or words j 0 * slice_index qs j + 1) % m_tilde ≡ 0
   pub below : (j : ℕ) → j < i → get_or words j 0 < 2 ^ 61
 
 pub corrections_none : (qs : List ℕ) → CorrectionsSoFar qs 0 []
 corrections_none qs = record { count = refl; each = λ j l. absurd (omega arith); below = λ j l. absurd (omega arith) }
 
 pub corrections_more : (qs : List ℕ) (i : ℕ) (words : List ℕ) (q word : ℕ) → CorrectionsSoFar qs i words → q ≡ slice_index qs i
-    → (word * q + 1) % 2 ^ 32 ≡ 0 → word < 2 ^ 32 → CorrectionsSoFar qs (i + 1) (words ++ word ∷ [])
+    → (word * q + 1) % m_tilde ≡ 0 → word < m_tilde → CorrectionsSoFar qs (i + 1) (words ++ word ∷ [])
 corrections_more qs i words q word so_far same is small = record {
   count = length-append words (word ∷ []) ∙ ap (λ n. n + 1) so_far.count;
-  each = each_pushed (λ j w. (w * slice_index qs j + 1) % 2 ^ 32 ≡ 0) words word 0 i so_far.count so_far.each (subst (λ q. (word * q + 1) % 2 ^ 32 ≡ 0) same is);
+  each = each_pushed (λ j w. (w * slice_index qs j + 1) % m_tilde ≡ 0) words word 0 i so_far.count so_far.each (subst (λ q. (word * q + 1) % m_tilde ≡ 0) same is);
   below = each_pushed (λ j w. w < 2 ^ 61) words word 0 i so_far.count so_far.below (omega arith);
 }
 

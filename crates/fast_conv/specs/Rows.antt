@@ -1,11 +1,13 @@
 -- The constants of a converter, row by row.
 use Rattle.std.specs.Int.{IsGcd}
 use Rattle.std.specs.Prelude.{◌≡◌, ℕ, ◌+◌, ◌-◌, ◌*◌, ◌/◌, ◌%◌, ◌^◌, ◌<◌, ◌≤◌, ℤ, pos, neg_ℤ, ◌+ℤ◌, ◌*ℤ◌, List, [], length, map, slice_index, slice_index_or, All, EachIndex}
+use Rattle.set_table.specs.Sets.{m_tilde}
 use Rattle.word_mod.specs.Moduli.{IsModulus}
 use Rattle.ring_law.specs.Sums.{sum_below}
 use Rattle.ring_law.specs.Residues.{residue}
 use Rattle.ring_law.specs.Moduli.{product, product_of_others}
 use Rattle.res_base.specs.Bases.{IsBase}
+use Rattle.fast_conv.specs.declared.outputs.RowConstants.{RowConstants}
 
 -- ---- rows that are read
 -- a modulus, and the factor that makes the word of a fast conversion from a residue
@@ -54,14 +56,14 @@ pub record IsOutput (r : Output) : Type 0 where
   pub last_factor : r.last_factor < 2 ^ 61
   pub added : r.added < 2 ^ 61
 
--- the row of these constants, whose factors are `scale` times the products of the others of qs
-pub record IsRowOf (qs : List ℕ) (modulus scale last_factor added : ℕ) (r : Output) : Type 0 where
+-- the row of these constants, whose factors are their scale times the products of the others of qs
+pub record IsRowOf (qs : List ℕ) (modulus : ℕ) (c : RowConstants) (r : Output) : Type 0 where
   pub is_modulus : IsModulus modulus
   pub same : r.modulus ≡ modulus
   pub count : length r.factors ≡ length qs
-  pub factors : EachIndex qs (λ i. slice_index r.factors i ≡ scale * product_of_others qs i % modulus)
-  pub last : r.last_factor ≡ last_factor
-  pub constant : r.added ≡ added
+  pub factors : EachIndex qs (λ i. slice_index r.factors i ≡ c.scale * product_of_others qs i % modulus)
+  pub last : r.last_factor ≡ c.last_factor
+  pub constant : r.added ≡ c.added
 
 -- the sum of the words, each times its factor, the last word times its own, and what is added
 unfoldable pub combination : Output → (ℕ → ℕ) → ℕ → ℤ
@@ -89,16 +91,16 @@ pub record AreOutputs (qs ps : List ℕ) (divisor : ℕ) (sign last added : ℤ)
   pub each : All (IsOutputOf qs divisor sign last added) outputs
 
 -- ---- the lift
--- word i is the negative of the inverse of modulus i modulo 2^32
+-- word i is the negative of the inverse of modulus i modulo `m_tilde`
 pub record AreCorrections (qs : List ℕ) (words : List ℕ) : Type 0 where
   pub count : length words ≡ length qs
-  pub each : EachIndex qs (λ i. (slice_index words i * slice_index qs i + 1) % 2 ^ 32 ≡ 0)
+  pub each : EachIndex qs (λ i. (slice_index words i * slice_index qs i + 1) % m_tilde ≡ 0)
   pub below : All (λ word. word < 2 ^ 61) words
 
--- the sum of the words, each times its correction, and 2^31, modulo 2^32
+-- the sum of the words, each times its correction, and half of `m_tilde`, modulo it
 abbrev pub correction_word : List ℕ → (ℕ → ℕ) → ℕ
 correction_word corrections word =
-    residue (2 ^ 32) (sum_below (length corrections) (λ i. pos (word i) *ℤ pos (slice_index corrections i)) +ℤ pos (2 ^ 31))
+    residue m_tilde (sum_below (length corrections) (λ i. pos (word i) *ℤ pos (slice_index corrections i)) +ℤ pos (m_tilde / 2))
 
 -- ---- the way back
 -- the rows of a way back from the base qs and one modulus more, that of the overflow

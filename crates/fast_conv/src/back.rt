@@ -9,7 +9,7 @@ ghost use Rattle.fast_conv.specs.Rows.{IsOutputOf};
 
 use crate::inputs::{InputRow, MOST_ROWS, input_rows, set_words};
 use crate::inverses::inverse_of_product;
-use crate::outputs::{OutputRow, set_column};
+use crate::outputs::{OutputRow, RowConstants, set_column};
 use res_base::Base;
 use std::alloc::{AllocError, Global};
 use std::marker::Model;
@@ -94,14 +94,12 @@ fn overflow_row(alloc: Global, base: &Base, sk: Modulus) -> Result<OutputRow, Al
         (pos (product base.now) *ℤ pos ((sk - 1) / 2)) row) }
 {
     let inverse = inverse_of_product(base, &sk);
-    OutputRow::new(
-        alloc,
-        base,
-        sk,
-        inverse,
-        sk.neg(inverse),
-        (sk.value() - 1) / 2,
-    )
+    let constants = RowConstants {
+        scale: inverse,
+        last_factor: sk.neg(inverse),
+        added: (sk.value() - 1) / 2,
+    };
+    OutputRow::new(alloc, base, sk, constants)
 }
 
 /// The row modulo `p` of a way back from `base`, where `half` was added to the overflow.
@@ -111,12 +109,10 @@ fn back_row(alloc: Global, base: &Base, p: Modulus, half: u64) -> Result<OutputR
         (pos (product base.now) *ℤ pos half) row) }
 {
     let product = base.product_mod(&p);
-    OutputRow::new(
-        alloc,
-        base,
-        p,
-        p.reduce(1),
-        p.neg(product),
-        p.mul(product, p.reduce(half)),
-    )
+    let constants = RowConstants {
+        scale: p.reduce(1),
+        last_factor: p.neg(product),
+        added: p.mul(product, p.reduce(half)),
+    };
+    OutputRow::new(alloc, base, p, constants)
 }

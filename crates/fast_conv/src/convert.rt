@@ -7,7 +7,7 @@ ghost use Rattle.fast_conv.specs.Converters.{AreFastConversions};
 ghost use Rattle.fast_conv.specs.Rows.{IsOutputOf};
 
 use crate::inputs::{InputRow, MOST_ROWS, input_rows, set_words};
-use crate::outputs::{OutputRow, set_column};
+use crate::outputs::{OutputRow, RowConstants, set_column};
 use res_base::Base;
 use std::alloc::{AllocError, Global};
 use std::marker::Model;
@@ -70,5 +70,10 @@ fn converting_row(alloc: Global, base: &Base, p: Modulus) -> Result<OutputRow, A
     ensures modulus { IfOk result (λ row. row.modulus ≡ p) }
     ensures value { IfOk result (λ row. IsOutputOf base.now 1 (pos 1) (pos 0) (pos 0) row) }
 {
-    OutputRow::new(alloc, base, p, p.reduce(1), 0, 0)
+    let constants = RowConstants {
+        scale: p.reduce(1),
+        last_factor: 0,
+        added: 0,
+    };
+    OutputRow::new(alloc, base, p, constants)
 }

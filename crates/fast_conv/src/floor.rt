@@ -10,7 +10,7 @@ ghost use Rattle.fast_conv.specs.Rows.{IsOutputOf, combination, no_output};
 
 use crate::inputs::{InputRow, MOST_ROWS, input_rows, set_words};
 use crate::inverses::inverse_of_product;
-use crate::outputs::{OutputRow, set_word};
+use crate::outputs::{OutputRow, RowConstants, set_word};
 use res_base::Base;
 use std::alloc::{AllocError, Global};
 use std::marker::Model;
@@ -112,12 +112,10 @@ fn floor_row(alloc: Global, base: &Base, p: Modulus, t: u64) -> Result<OutputRow
     ensures value { IfOk result (λ row. IsOutputOf base.now (product base.now) (neg_ℤ (pos 1)) (pos t) (pos 0) row) }
 {
     let inverse = inverse_of_product(base, &p);
-    OutputRow::new(
-        alloc,
-        base,
-        p,
-        p.neg(inverse),
-        p.mul(p.reduce(t), inverse),
-        0,
-    )
+    let constants = RowConstants {
+        scale: p.neg(inverse),
+        last_factor: p.mul(p.reduce(t), inverse),
+        added: 0,
+    };
+    OutputRow::new(alloc, base, p, constants)
 }

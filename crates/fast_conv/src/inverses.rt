@@ -1,11 +1,16 @@
 //! Inverses of what a conversion divides by.
 
-ghost use Rattle.std.specs.Prelude.{◌≡◌, ◌*◌, ◌%◌, ◌^◌, ◌<◌};
+ghost use Rattle.std.specs.Prelude.{◌≡◌, ◌*◌, ◌%◌, ◌<◌};
 ghost use Rattle.std.specs.Int.{IsGcd};
+ghost use Rattle.set_table.specs.Sets.{m_tilde};
 ghost use Rattle.ring_law.specs.Moduli.{product};
 
 use res_base::Base;
 use word_mod::Modulus;
+
+/// The modulus of the Montgomery lift beside those of its bases (`m~` of Bajard, Eynard, Hasan and
+/// Zucca 2016).
+pub const M_TILDE: u64 = 1 << 32;
 
 /// The inverse modulo `p` of the base's product.
 pub fn inverse_of_product(base: &Base, p: &Modulus) -> u64
@@ -16,10 +21,10 @@ pub fn inverse_of_product(base: &Base, p: &Modulus) -> u64
     p.inverse(base.product_mod(p)).unwrap()
 }
 
-/// The inverse modulo `p` of 2^32.
+/// The inverse modulo `p` of `M_TILDE`.
 pub fn inverse_of_m_tilde(p: Modulus) -> u64
-    ensures value { result * 2 ^ 32 % p ≡ 1 }
+    ensures value { result * m_tilde % p ≡ 1 }
     ensures below { result < p }
 {
-    p.inverse(1 << 32).unwrap()
+    p.inverse(M_TILDE).unwrap()
 }

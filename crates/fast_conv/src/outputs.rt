@@ -42,31 +42,38 @@ impl Model for OutputRow {
     }) };
 }
 
+/// What the words of a row are multiplied by, beside the products of the other moduli of the base,
+/// what one word more is multiplied by, and what is added: residues by the modulus of the row.
+#[derive(Clone, Copy)]
+pub struct RowConstants {
+    pub scale: u64,
+    pub last_factor: u64,
+    pub added: u64,
+}
+
 impl OutputRow {
-    /// The row of `modulus` whose factors are `scale` times the products of the other moduli of
+    /// The row of `modulus` whose factors are the scale times the products of the other moduli of
     /// `base`.
     pub fn new(
         alloc: Global,
         base: &Base,
         modulus: Modulus,
-        scale: u64,
-        last_factor: u64,
-        added: u64,
+        constants: RowConstants,
     ) -> Result<OutputRow, AllocError>
-        requires scale_below { scale < modulus }
-        requires last_factor_below { last_factor < modulus }
-        requires added_below { added < modulus }
-        ensures { IfOk result (λ row. IsRowOf base.now modulus scale last_factor added row) }
+        requires scale_below { constants.scale < modulus }
+        requires last_factor_below { constants.last_factor < modulus }
+        requires added_below { constants.added < modulus }
+        ensures { IfOk result (λ row. IsRowOf base.now modulus constants row) }
     {
         let mut factors = Vec::new(alloc);
         for i in 0..base.len() {
-            factors.push(modulus.mul(scale, base.hat_mod(i, &modulus)))?;
+            factors.push(modulus.mul(constants.scale, base.hat_mod(i, &modulus)))?;
         }
         Ok(OutputRow {
             modulus,
             factors,
-            last_factor,
-            added,
+            last_factor: constants.last_factor,
+            added: constants.added,
         })
     }
 

@@ -4,6 +4,7 @@ use Rattle.ring_law.specs.Residues.{Congruent}
 use Rattle.ring_law.specs.Moduli.{product}
 use Rattle.ring_law.proofs.Congruence.{Congruent-mul, Congruent-neg, Congruent-trans}
 use Rattle.fast_conv.specs.Rows.{IsOutputOf, IsRowOf}
+use Rattle.fast_conv.specs.declared.outputs.RowConstants.{RowConstants}
 use Rattle.fast_conv.proofs.Making.{IsOutputOf-from}
 use Rattle.fast_conv.proofs.Words.{Congruent-negative_word, Congruent-one_times, Congruent-word}
 use Rattle.fast_conv.proofs.back.back_row.Goals as goal
@@ -21,7 +22,8 @@ returns-clause-value c =
     Congruent-trans p (Congruent-negative_word p c.product_mod-product.result c.neg.result below c.neg.ensures.value) (Congruent-neg p whole) in
     let added : Congruent p (pos c.mul.result) (pos B *ℤ pos half) =
     Congruent-trans p (Congruent-word p (omega arith) c.mul.ensures.value) (Congruent-mul p whole halved) in
-    IfOk-weaker c.new.result (IsRowOf c.args.base.now p c.reduce.result c.neg.result c.mul.result) (IsOutputOf c.args.base.now 1 (pos 1) (neg_ℤ (pos B)) (pos B *ℤ pos half))
-    (IsOutputOf-from c.args.base.now 1 (pos 1) (neg_ℤ (pos B)) (pos B *ℤ pos half) p c.reduce.result c.neg.result c.mul.result
+    let constants : RowConstants = record { scale = c.reduce.result; last_factor = c.neg.result; added = c.mul.result } in
+    IfOk-weaker c.new.result (IsRowOf c.args.base.now p constants) (IsOutputOf c.args.base.now 1 (pos 1) (neg_ℤ (pos B)) (pos B *ℤ pos half))
+    (IsOutputOf-from c.args.base.now 1 (pos 1) (neg_ℤ (pos B)) (pos B *ℤ pos half) p constants
     (Congruent-one_times p one) (Congruent-one_times p negative) (Congruent-one_times p added))
     c.new.ensures

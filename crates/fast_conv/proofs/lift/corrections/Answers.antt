@@ -7,7 +7,7 @@ loop-i-init c = rw c.new-words.ensures.items (corrections_none c.args.base.now)
 
 pub loop-i-preserved : goal.loop-i-preserved
 loop-i-preserved c = rw c.in_ok-push.ensures.items
-    (corrections_more c.args.base.now c.loop-i.i c.loop-i.words.items c.modulus.result.now c.negative_inverse.result c.loop-i.invariant c.modulus.ensures c.negative_inverse.ensures.value c.negative_inverse.ensures.below)
+    (corrections_more c.args.base.now c.loop-i.i c.loop-i.words.items c.modulus.result.now c.negative_inverse_mod_m_tilde.result c.loop-i.invariant c.modulus.ensures c.negative_inverse_mod_m_tilde.ensures.value c.negative_inverse_mod_m_tilde.ensures.below)
 
 pub returns : goal.returns
 returns c = corrections_all c.args.base.now c.loop-i.i c.loop-i.words.items (omega (arith, c.len-i-end.ensures.value)) c.loop-i.invariant

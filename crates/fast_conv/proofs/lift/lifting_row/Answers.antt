@@ -5,6 +5,7 @@ use Rattle.ring_law.specs.Moduli.{product}
 use Rattle.ring_law.proofs.Congruence.{Congruent-equal, Congruent-mul, Congruent-neg, Congruent-refl, Congruent-trans}
 use Rattle.ring_law.proofs.RingSolver.{identity3, minus, ◌⊗◌}
 use Rattle.fast_conv.specs.Rows.{IsOutputOf, IsRowOf}
+use Rattle.fast_conv.specs.declared.outputs.RowConstants.{RowConstants}
 use Rattle.fast_conv.proofs.Making.{IsOutputOf-from}
 use Rattle.fast_conv.proofs.Words.{Congruent-negative_word, Congruent-unit, Congruent-unit_times, Congruent-word}
 use Rattle.fast_conv.proofs.lift.lifting_row.Goals as goal
@@ -30,6 +31,7 @@ returns-clause-value c =
     Congruent-trans p (Congruent-mul p (Congruent-refl p (pos M)) negative)
     (Congruent-trans p (Congruent-equal p (identity3 (λ m h s. m ⊗ minus (h ⊗ s)) (λ m h s. minus (h ⊗ (m ⊗ s))) refl (pos M) (pos h) (pos s)))
     (Congruent-neg p (Congruent-mul p (Congruent-refl p (pos h)) whole))) in
-    IfOk-weaker c.new.result (IsRowOf c.args.base.now p v s c.neg-added.result) (IsOutputOf c.args.base.now M (pos 1) (pos q) (neg_ℤ (pos h *ℤ pos q)))
-    (IsOutputOf-from c.args.base.now M (pos 1) (pos q) (neg_ℤ (pos h *ℤ pos q)) p v s c.neg-added.result unit whole added)
+    let constants : RowConstants = record { scale = v; last_factor = s; added = c.neg-added.result } in
+    IfOk-weaker c.new.result (IsRowOf c.args.base.now p constants) (IsOutputOf c.args.base.now M (pos 1) (pos q) (neg_ℤ (pos h *ℤ pos q)))
+    (IsOutputOf-from c.args.base.now M (pos 1) (pos q) (neg_ℤ (pos h *ℤ pos q)) p constants unit whole added)
     c.new.ensures

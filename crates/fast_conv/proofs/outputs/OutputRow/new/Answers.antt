@@ -10,9 +10,9 @@ use Rattle.fast_conv.proofs.outputs.OutputRow.new.Goals as goal
 pub loop-i-preserved : goal.loop-i-preserved
 loop-i-preserved c = rw c.in_ok-push.ensures.items (record {
   count = length-append c.loop-i.factors.items (c.mul.result ∷ []) ∙ ap (λ n. n + 1) c.loop-i.invariant.count;
-  value = each_pushed (λ i f. f ≡ c.args.scale * product_of_others c.args.base.now i % c.args.modulus) c.loop-i.factors.items c.mul.result 0 c.loop-i.i
+  value = each_pushed (λ i f. f ≡ c.args.constants.scale * product_of_others c.args.base.now i % c.args.modulus) c.loop-i.factors.items c.mul.result 0 c.loop-i.i
       c.loop-i.invariant.count c.loop-i.invariant.value
-      (c.mul.ensures.value ∙ rw c.hat_mod.ensures.value (mul-mod_second c.args.scale (product_of_others c.args.base.now c.loop-i.i) c.args.modulus));
+      (c.mul.ensures.value ∙ rw c.hat_mod.ensures.value (mul-mod_second c.args.constants.scale (product_of_others c.args.base.now c.loop-i.i) c.args.modulus));
 })
 
 pub invariant_of-result : goal.invariant_of-result
@@ -24,7 +24,7 @@ invariant_of-result c =
       modulus = is;
       few = (let few = c.len-i-end.ensures.base.few in let count = c.loop-i.invariant.count in omega arith);
       factors = All-from_get_or (λ f. f < 2 ^ 61) c.loop-i.factors.items 0 (λ i within.
-          let less : c.args.scale * product_of_others c.args.base.now i % c.args.modulus < c.args.modulus = mod-lt (c.args.scale * product_of_others c.args.base.now i) (omega arith) in
+          let less : c.args.constants.scale * product_of_others c.args.base.now i % c.args.modulus < c.args.modulus = mod-lt (c.args.constants.scale * product_of_others c.args.base.now i) (omega arith) in
           rw (c.loop-i.invariant.value i (rw (← c.loop-i.invariant.count) within)) (omega arith));
       last_factor = omega arith;
       added = omega arith;

@@ -5,5 +5,5 @@ use Rattle.fast_conv.proofs.outputs.OutputRow.new.Given as goal
 abbrev pub invariant-loop-i : goal.invariant-loop-i
 invariant-loop-i l = record {
   count : length l.factors.items ≡ l.i;
-  value : (i : ℕ) → i < l.i → get_or l.factors.items i 0 ≡ l.scale * product_of_others l.base i % l.modulus;
+  value : (i : ℕ) → i < l.i → get_or l.factors.items i 0 ≡ l.constants.scale * product_of_others l.base i % l.modulus;
 }

@@ -3,7 +3,7 @@ use Rattle.std.specs.Int.{IsGcd}
 use Rattle.ring_law.specs.Moduli.{product}
 use Rattle.behz_decrypt.proofs.Coprimality.{coprime_residue}
 use Rattle.behz_decrypt.proofs.RoundedWords.{negative_inverse_is}
-use Rattle.behz_decrypt.proofs.rounding.negative_inverse.Goals as goal
+use Rattle.behz_decrypt.proofs.rounding.negative_inverse_of_product.Goals as goal
 
 pub unwrap-inverse-requires : goal.unwrap-inverse-requires
 unwrap-inverse-requires c =

@@ -1,6 +1,7 @@
 use Rattle.std.proofs.Common.{◌≡◌, ℕ, ◌+◌, ◌-◌, ◌*◌, ◌/◌, ◌%◌, ◌<◌, arith, ap, sym, ◌∙◌, div-add-mod'}
 use Rattle.std.proofs.Math.Nat.{mul-div_left, mul-mod_left}
-use Rattle.fast_conv.proofs.lift.negative_inverse.Goals as goal
+use Rattle.set_table.specs.Sets.{m_tilde}
+use Rattle.fast_conv.proofs.lift.negative_inverse_mod_m_tilde.Goals as goal
 
 -- v * M - 1 is divisible by q, and one more than it by M
 divided : (v q M : ℕ) → 0 < q → v * M % q ≡ 1 → ((v * M - 1) / q * q + 1) % M ≡ 0
@@ -16,4 +17,4 @@ divided v q M positive one =
 pub returns-clause-value : goal.returns-clause-value
 returns-clause-value c =
     let three = c.value.ensures.modulus.from_three in
-    rw c.value.ensures.value (divided c.inverse_of_m_tilde.result c.args.q 4294967296 (omega arith) c.inverse_of_m_tilde.ensures.value)
+    rw c.value.ensures.value (divided c.inverse_of_m_tilde.result c.args.q m_tilde (omega arith) c.inverse_of_m_tilde.ensures.value)
