@@ -108,7 +108,6 @@ fn fill_key<const N: usize>(ctx: &Context<N>, key: &mut Public<N>)
     requires set { (key.old).set ≡ (ctx.now).set }
     ensures { (key.new).set ≡ (key.old).set }
 {
-    let _set = ctx.set();
     let moduli = ctx.data_moduli();
     let mut row = [0; N];
     for i in 0..2 * moduli.len() {

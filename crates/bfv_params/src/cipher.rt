@@ -4,6 +4,7 @@ ghost use Rattle.std.specs.Prelude.{◌≡◌, ℕ, ℤ, ◌+◌, ◌*◌, ◌%�
 ghost use Rattle.ring_law.specs.Rows.{IsReduced, Represents, WordsRepresent};
 ghost use Rattle.rns_poly.specs.Rows.{AreReduced};
 ghost use Rattle.bfv_model.specs.Holds.{listed_word};
+ghost use Rattle.set_table.specs.Sets.{degree_of};
 ghost use Rattle.bfv_params.specs.Moduli.{data_at};
 ghost use Rattle.bfv_params.specs.Kept.{IsCipher};
 ghost use Rattle.bfv_params.specs.Rows.{ArePartlyWritten};
@@ -43,7 +44,8 @@ impl<const N: usize> Model for Cipher<N> {
 impl<const N: usize> Cipher<N> {
     /// The ciphertext of two zero parts at the level of the context. The error is want of memory.
     pub fn new(alloc: Global, ctx: &Context<N>) -> Result<Cipher<N>, AllocError>
-        ensures { IfOk result (λ c. c ≡ zero_cipher N (ctx.now).set (ctx.now).level) }
+        ensures value { IfOk result (λ c. c ≡ zero_cipher N (ctx.now).set (ctx.now).level) }
+        ensures degree { N ≡ degree_of (ctx.now).set }
     {
         let set = ctx.set();
         let level = ctx.data_moduli().len();

@@ -85,7 +85,8 @@ impl<const N: usize> Context<N> {
 
     /// The number of rows that each call of the scheme finds enough to work in.
     pub fn scratch_rows(&self) -> usize
-        ensures { result ≡ scratch_rows_in (self.now) }
+        ensures value { result ≡ scratch_rows_in (self.now) }
+        ensures degree { N ≡ degree_of (self.now).set }
     {
         8 * (self.moduli.base.len() + self.set.aux_count() + 2)
     }

@@ -1,7 +1,7 @@
 //! Public keys.
 
 ghost use Rattle.std.specs.Prelude.{◌≡◌, ℕ, ℤ, ◌+◌, ◌*◌, ◌%◌, ◌<◌, length, slice_index, slice_range, slice_set, IfOk};
-ghost use Rattle.set_table.specs.Sets.{data_of};
+ghost use Rattle.set_table.specs.Sets.{degree_of, data_of};
 ghost use Rattle.ring_law.specs.Rows.{IsReduced, Represents, WordsRepresent};
 ghost use Rattle.rns_poly.specs.Rows.{AreReduced};
 ghost use Rattle.bfv_model.specs.Holds.{listed_word};
@@ -39,7 +39,8 @@ impl<const N: usize> Model for Public<N> {
 impl<const N: usize> Public<N> {
     /// The key of two zero parts. The error is want of memory.
     pub fn new(alloc: Global, ctx: &Context<N>) -> Result<Public<N>, AllocError>
-        ensures { IfOk result (λ p. p ≡ zero_public N (ctx.now).set) }
+        ensures value { IfOk result (λ p. p ≡ zero_public N (ctx.now).set) }
+        ensures degree { N ≡ degree_of (ctx.now).set }
     {
         let set = ctx.set();
         Ok(Public {

@@ -3,6 +3,7 @@
 ghost use Rattle.std.specs.Prelude.{◌≡◌, IfOk};
 ghost use Rattle.ring_law.specs.Polynomials.{AllWithin};
 ghost use Rattle.ring_law.specs.Rows.{listed_polynomial};
+ghost use Rattle.set_table.specs.Sets.{degree_of};
 ghost use Rattle.bfv_params.specs.Kept.{IsSecret};
 ghost use Rattle.bfv_params.specs.Values.{zero_secret};
 
@@ -33,7 +34,8 @@ impl<const N: usize> Model for Secret<N> {
 impl<const N: usize> Secret<N> {
     /// The secret whose coefficients are all 0. The error is want of memory.
     pub fn new(alloc: Global, ctx: &Context<N>) -> Result<Secret<N>, AllocError>
-        ensures { IfOk result (λ s. s ≡ zero_secret N (ctx.now).set) }
+        ensures value { IfOk result (λ s. s ≡ zero_secret N (ctx.now).set) }
+        ensures degree { N ≡ degree_of (ctx.now).set }
     {
         Ok(Secret {
             set: ctx.set(),

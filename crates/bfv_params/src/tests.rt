@@ -146,7 +146,6 @@ fn check_values<const N: usize>(
     ctx: &Context<N>,
     row: &Row,
 ) -> Result<(), Fail> {
-    let _set = ctx.set();
     let mut secret = Secret::<N>::new(alloc, ctx)?;
     assert_eq!(rt; secret.small()[0], 0);
     secret.set(&[-1; N]);
