@@ -12,11 +12,14 @@ use Rattle.bfv_model.specs.Holds.{zero_polynomial}
 use Rattle.bfv_model.specs.Plaintexts.{plain_difference, plain_multiple, plain_negative, plain_product, plain_sum}
 use Rattle.bfv_model.proofs.LinearOperations.{Holds-add, Holds-add_plain, Holds-mul_constant, Holds-mul_plain, Holds-neg, Holds-sub, Holds-sub_plain}
 use Rattle.bfv_model.proofs.Noise.{Holds-equal_plain, ring_product_zero}
-use Rattle.bfv_model.proofs.Rules.{degree_pos}
+use Rattle.bfv_model.proofs.Sets.{degree_pos}
 use Rattle.bfv_params.specs.Values.{CipherValue, ContextValue}
 use Rattle.bfv_params.specs.Ciphers.{HoldsIn}
 use Rattle.bfv_linear.specs.Parts.{PartsRepresent, at_first_part, scaled_polynomial}
 use Rattle.bfv_linear.specs.Plaintexts.{centred_plain}
+use Rattle.bfv_linear.specs.Signs.{signed}
+use Rattle.bfv_linear.specs.declared.signs.Sign.{Sign}
+use Rattle.bfv_linear.specs.declared.signs.Sign.TheVariants.{Plus, Minus}
 use Rattle.bfv_linear.proofs.Ciphers.{HoldsIn-parts, parts_written, third_is_zero, with_second}
 use Rattle.bfv_linear.proofs.Moduli.{both_positive, plain_positive}
 use Rattle.bfv_linear.proofs.Operands.{IsOperand}
@@ -30,6 +33,10 @@ zero_negative n q x positive vanishes k below =
   where
     whole : (q : ℕ) → q - 0 ≡ q
     whole q = omega arith
+
+zero_signed : (sign : Sign) (n q : ℕ) (x : ℕ → ℤ) → 0 < q → IsZeroModulo n q x → IsZeroModulo n q (signed sign x)
+zero_signed Plus n q x positive vanishes = vanishes
+zero_signed Minus n q x positive vanishes = zero_negative n q x positive vanishes
 
 zero_sum : (n q : ℕ) (x y : ℕ → ℤ) → 0 < q → IsZeroModulo n q x → IsZeroModulo n q y → IsZeroModulo n q (ring_sum x y)
 zero_sum n q x y positive vanishes other k below =
@@ -63,19 +70,13 @@ module _ (n : ℕ) (ctx : ContextValue) (moduli : List ℕ) (a first now : Ciphe
       → (x : ℕ → ℕ → ℤ) → PartsRepresent n ctx a x → PartsRepresent n ctx now (λ j. ring_negative (x j))
   parts_negative = made_of (λ j. ring_negative) (λ p x in_list positive two vanishes. zero_negative n (slice_index moduli p) x positive vanishes)
 
-  pub parts_sum : (b : CipherValue) → IsOperand n ctx moduli b → b.parts ≤ first.parts → WrittenTo first (Combines n moduli (length moduli) ring_sum a.rows b.rows) count now
-      → (x y : ℕ → ℕ → ℤ) → PartsRepresent n ctx a x → PartsRepresent n ctx b y → PartsRepresent n ctx now (λ j. ring_sum (x j) (y j))
-  parts_sum b known_b few written x y of_a of_b = made_of (λ j x. ring_sum x (y j))
-      (λ p x in_list positive two vanishes. zero_sum n (slice_index moduli p) x (y 2) positive vanishes (third_is_zero n ctx moduli b known_b y of_b (omega arith) p in_list))
-      (with_second n ctx moduli a b first now ring_sum count known_b in_rows y of_b written) x of_a
-
-  pub parts_difference : (b : CipherValue) → IsOperand n ctx moduli b → b.parts ≤ first.parts
-      → WrittenTo first (Combines n moduli (length moduli) (λ x y. ring_sum x (ring_negative y)) a.rows b.rows) count now
-      → (x y : ℕ → ℕ → ℤ) → PartsRepresent n ctx a x → PartsRepresent n ctx b y → PartsRepresent n ctx now (λ j. ring_sum (x j) (ring_negative (y j)))
-  parts_difference b known_b few written x y of_a of_b = made_of (λ j x. ring_sum x (ring_negative (y j)))
-      (λ p x in_list positive two vanishes. zero_sum n (slice_index moduli p) x (ring_negative (y 2)) positive vanishes
-      (zero_negative n (slice_index moduli p) (y 2) positive (third_is_zero n ctx moduli b known_b y of_b (omega arith) p in_list)))
-      (with_second n ctx moduli a b first now (λ x y. ring_sum x (ring_negative y)) count known_b in_rows y of_b written) x of_a
+  pub parts_signed_sum : (sign : Sign) (b : CipherValue) → IsOperand n ctx moduli b → b.parts ≤ first.parts
+      → WrittenTo first (Combines n moduli (length moduli) (λ x y. ring_sum x (signed sign y)) a.rows b.rows) count now
+      → (x y : ℕ → ℕ → ℤ) → PartsRepresent n ctx a x → PartsRepresent n ctx b y → PartsRepresent n ctx now (λ j. ring_sum (x j) (signed sign (y j)))
+  parts_signed_sum sign b known_b few written x y of_a of_b = made_of (λ j x. ring_sum x (signed sign (y j)))
+      (λ p x in_list positive two vanishes. zero_sum n (slice_index moduli p) x (signed sign (y 2)) positive vanishes
+      (zero_signed sign n (slice_index moduli p) (y 2) positive (third_is_zero n ctx moduli b known_b y of_b (omega arith) p in_list)))
+      (with_second n ctx moduli a b first now (λ x y. ring_sum x (signed sign y)) count known_b in_rows y of_b written) x of_a
 
   pub parts_multiple : (c : ℤ) → WrittenTo first (Becomes n moduli (length moduli) (λ j x i. c *ℤ x i) a.rows) count now
       → (x : ℕ → ℕ → ℤ) → PartsRepresent n ctx a x → PartsRepresent n ctx now (λ j i. c *ℤ x j i)

@@ -1,2 +1,3 @@
 pub mod Plaintexts
 pub mod Parts
+pub mod Signs

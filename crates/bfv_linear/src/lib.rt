@@ -8,6 +8,7 @@
 mod centred;
 mod plaintexts;
 mod products;
+mod signs;
 mod sums;
 #[cfg(test)]
 mod tests;

@@ -1,10 +1,11 @@
 //! Each operation on ciphertexts of two and of three parts, against checksums over all words of the results by Python's
 //! whole numbers.
 
-ghost use Rattle.std.specs.Prelude.{◌≡◌, ◌⊎◌, ◌+◌, ◌*◌, ◌≤◌, length, IfOk};
-ghost use Rattle.set_table.specs.Sets.{aux_of, degree_of};
+ghost use Rattle.std.specs.Prelude.{◌≡◌, ◌⊎◌, ◌≤◌, length, IfOk};
+ghost use Rattle.set_table.specs.Sets.{degree_of};
 ghost use Rattle.ring_law.specs.Rows.{IsReduced};
 ghost use Rattle.bfv_params.specs.Ciphers.{IsCipherOf};
+ghost use Rattle.bfv_params.specs.Contexts.{scratch_rows_in};
 
 use super::*;
 use bfv_params::{Cipher, Context};
@@ -131,7 +132,7 @@ fn check_plain<const N: usize>(
     requires a_of { IsCipherOf (ctx.now) (a.now) }
     requires b_of { IsCipherOf (ctx.now) (b.now) }
     requires out_of { IsCipherOf (ctx.now) (out.old) }
-    requires scratch_rows { length scratch.old ≡ 8 * ((ctx.now).level + length (aux_of (ctx.now).set) + 2) }
+    requires scratch_rows { length scratch.old ≡ scratch_rows_in (ctx.now) }
 {
     let mut plain = [0; N];
     fill(ctx.plain_modulus(), 300, &mut plain);
@@ -154,7 +155,7 @@ fn check_result<const N: usize>(rt: &impl Abort, out: &Cipher<N>, parts: u8, sum
 
 fn scratch_of<const N: usize>(alloc: Global, ctx: &Context<N>) -> Result<PolyBuf<N>, AllocError>
     requires { N ≤ 32768 }
-    ensures { IfOk result (λ b. length b ≡ 8 * ((ctx.now).level + length (aux_of (ctx.now).set) + 2)) }
+    ensures { IfOk result (λ b. length b ≡ scratch_rows_in (ctx.now)) }
 {
     PolyBuf::<N>::new(alloc, ctx.scratch_rows())
 }
