@@ -4,6 +4,7 @@ use Rattle.std.specs.List.{list_all, find}
 use Rattle.std.specs.Str.{bytes_eq}
 use Rattle.line_text.specs.Lines.{Line, counted_lines}
 use Rattle.script_text.specs.Grammar.{demand}
+use Rattle.batch_text.specs.Limits.{max_batch_bytes, max_commands}
 use Rattle.script_text.specs.declared.faults.ScriptPlace.{ScriptPlace}
 use Rattle.script_text.specs.declared.faults.ScriptPlace.TheVariants.{Syntax, TooLong}
 
@@ -24,9 +25,9 @@ begins_batch (command ∷ words) = bytes_eq command (codes "batch")
 abbrev pub is_command : List (List ℕ) → Bool
 is_command words = are_plain words && not (begins_batch words)
 
--- more than 1,048,576 bytes or 1,000 commands
+-- more bytes or commands than a batch has
 abbrev pub is_too_long : List ℕ → Bool
-is_too_long text = nat_lt 1048576 (length text) || nat_lt 1000 (length (counted_lines text))
+is_too_long text = nat_lt max_batch_bytes (length text) || nat_lt max_commands (length (counted_lines text))
 
 -- the first of the lines that is no command
 abbrev pub first_bad : List Line → Option Line

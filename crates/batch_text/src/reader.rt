@@ -4,17 +4,15 @@ ghost use Rattle.script_text.specs.Drafts.{Gives};
 ghost use Rattle.line_text.specs.Lines.{counted_from, counted_lines};
 ghost use Rattle.script_text.specs.declared.faults.ScriptPlace.{ScriptPlace};
 ghost use Rattle.script_text.specs.declared.faults.ScriptFault.TheVariants as fault;
+ghost use Rattle.batch_text.specs.Limits.{max_batch_bytes};
 ghost use Rattle.batch_text.specs.Commands.{is_too_long, commands_of};
 ghost use Rattle.batch_text.specs.Reading.{texts, commands_in, behind};
 
+use crate::limits::{MAX_BATCH_BYTES, MAX_COMMANDS};
 use crate::words::{is_command, words_of};
 use line_text::is_passed_over;
 use script_text::{ScriptFault, ScriptPlace};
 use std::alloc::Global;
-
-const MOST_BYTES: usize = 1_048_576;
-
-const MOST_COMMANDS: usize = 1000;
 
 /// How many lines of a text are commands.
 fn count_commands(text: &[u8]) -> usize
@@ -28,7 +26,7 @@ fn count_commands(text: &[u8]) -> usize
 fn is_too_long(text: &[u8]) -> bool
     ensures { result ≡ is_too_long text.now }
 {
-    text.len() > MOST_BYTES || count_commands(text) > MOST_COMMANDS
+    text.len() > MAX_BATCH_BYTES || count_commands(text) > MAX_COMMANDS
 }
 
 /// Reads one more line. A line that is passed over gives no command.
@@ -52,7 +50,7 @@ fn read_line(
 
 /// Reads all lines of a text.
 fn read_lines(alloc: Global, text: &[u8]) -> Result<Vec<Vec<String>>, ScriptFault>
-    requires { length text.now ≤ MOST_BYTES }
+    requires { length text.now ≤ max_batch_bytes }
     ensures { Gives (λ commands. texts commands.items) result (commands_in (counted_lines text.now)) }
 {
     let mut commands = Vec::new(alloc);

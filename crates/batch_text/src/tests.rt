@@ -1,5 +1,5 @@
 // Batches that are read and refused.
-use crate::read_commands;
+use crate::{MAX_COMMANDS, read_commands};
 use script_text::{ScriptFault, ScriptPlace};
 use std::alloc::Global;
 use std::test::Fail;
@@ -66,11 +66,11 @@ fn refuses_commands(rt: HostRuntime) -> Result<(), Fail> {
 fn counts_commands(rt: HostRuntime) -> Result<(), Fail> {
     let alloc = rt.alloc();
     let mut text = Vec::new(alloc);
-    for _ in 0..1000 {
+    for _ in 0..MAX_COMMANDS {
         text.extend_from_slice(b"c\n# \n")?;
     }
     let read = read_commands(alloc, &text)?;
-    assert_eq!(rt; read.len(), 1000);
+    assert_eq!(rt; read.len(), MAX_COMMANDS);
     text.extend_from_slice(b"batch")?;
     let fault = read_commands(alloc, &text).err();
     assert_eq!(rt; fault, Some(ScriptFault::Bad(ScriptPlace::TooLong)));

@@ -4,6 +4,7 @@ use Rattle.std.proofs.lemmas.Bool.{cases_lt, cases_eq}
 use Rattle.std.proofs.lemmas.List.{get_or_push, get_or_append_left, get_or_past}
 use Rattle.set_table.specs.declared.SetName.{SetName}
 use Rattle.set_table.specs.Sets.{plain_of, data_of}
+use Rattle.script_text.specs.Limits.{max_steps}
 use Rattle.script_text.specs.declared.script.Op.{Op}
 use Rattle.script_text.specs.declared.script.Op.TheVariants.{Add, Sub, Neg, AddPlain, SubPlain, MulPlain, MulConst, Mul, Relin, Turn, Swap}
 use Rattle.script_text.specs.declared.script.Step.{Step}
@@ -84,10 +85,10 @@ near_registers script inputs =
 pub exact-le-rounded : (script : Script) (inputs : List ℕ) (i : ℕ) → slice_index (exact_bounds script inputs) i ≤ slice_index (rounded_bounds script inputs) i
 exact-le-rounded script inputs i = near_least (3 * length script.steps) _ _ ((near_registers script inputs).near i)
 
-pub rounded-near_exact : (script : Script) (inputs : List ℕ) (i : ℕ) → length script.steps ≤ 4096 →
+pub rounded-near_exact : (script : Script) (inputs : List ℕ) (i : ℕ) → length script.steps ≤ max_steps →
     65536 * slice_index (rounded_bounds script inputs) i ≤ 65537 * slice_index (exact_bounds script inputs) i
 rounded-near_exact script inputs i few = near_within (3 * length script.steps) _ _ (omega arith) ((near_registers script inputs).near i)
 
-pub above_limit-exact : (script : Script) (inputs : List ℕ) (i : ℕ) → length script.steps ≤ 4096 →
+pub above_limit-exact : (script : Script) (inputs : List ℕ) (i : ℕ) → length script.steps ≤ max_steps →
     limit (data_of script.set) < slice_index (rounded_bounds script inputs) i → product (data_of script.set) < 8 * slice_index (exact_bounds script inputs) i
 above_limit-exact script inputs i few above = product-lt_above script.set _ _ above (rounded-near_exact script inputs i few)

@@ -19,6 +19,7 @@ use Rattle.bound_num.proofs.Closed.{div_ceil-le_leads, div-lt_leads, up_value, d
 use Rattle.ring_law.specs.Moduli.{product}
 use Rattle.bfv_model.specs.Limit.{limit}
 use Rattle.bfv_model.proofs.Limits.{limit_le}
+use Rattle.script_text.specs.Limits.{max_steps}
 use Rattle.script_text.specs.declared.script.Op.{Op}
 use Rattle.script_text.specs.declared.script.Op.TheVariants.{Add, Sub, Neg, AddPlain, SubPlain, MulPlain, MulConst, Mul, Relin, Turn, Swap}
 use Rattle.script_text.specs.declared.script.Step.{Step}
@@ -220,7 +221,7 @@ too_noisy_canonical script inputs line bound most canonical same =
     let made = subst (λ list. IsBound (get_or list is.register 0)) are.numbers_are (bound_at are.bounds is.register are.canonical) in
     subst (λ (bound : Bound). IsCanonical bound.m bound.e) is.bound_is (canonical_bound_of _ made)
 
-pub too_noisy_exactly : (script : Script) (inputs : List ℕ) (line : ℕ) (bound most : Bound) → length script.steps ≤ 4096 →
+pub too_noisy_exactly : (script : Script) (inputs : List ℕ) (line : ℕ) (bound most : Bound) → length script.steps ≤ max_steps →
     verdict_of script inputs ≡ TooNoisy line bound most → (register : ℕ) × (product (data_of script.set) < 8 * get_or (exact_bounds script inputs) register 0)
 too_noisy_exactly script inputs line bound most few same =
     let is = too_noisy script (rounded_bounds script inputs) line bound most same in

@@ -1,7 +1,7 @@
 -- The verdict from the bounds of all registers.
-use Rattle.std.proofs.Common.{◌≡◌, ℕ, ◌+◌, ◌<◌, nat_lt, sym, ap, ap₂, ◌∙◌, subst, arith, List, [], ◌∷◌, ◌++◌, length, get_or, slice_index, map, position, Option, Some, None, length-append}
+use Rattle.std.proofs.Common.{◌≡◌, ℕ, ◌+◌, ◌<◌, nat_lt, sym, ap, ap₂, ◌∙◌, subst, arith, List, [], ◌∷◌, ◌++◌, length, get_or, slice_index, position, Option, Some, None, length-append}
 use Rattle.std.specs.Prelude.{fold}
-use Rattle.std.proofs.lemmas.List.{length-map, get_or-map}
+use Rattle.std.proofs.lemmas.List.{get_or-map}
 use Rattle.std.proofs.lemmas.List.Quantifiers.{position-Some}
 use Rattle.set_table.specs.declared.SetName.{SetName}
 use Rattle.set_table.specs.Sets.{data_of}
@@ -9,11 +9,11 @@ use Rattle.bound_num.specs.declared.Bound.{Bound}
 use Rattle.bound_num.specs.Bound.{bound_value, IsCanonical}
 use Rattle.bfv_model.specs.Limit as limits
 use Rattle.script_text.specs.declared.script.Step.{Step}
-use Rattle.script_text.specs.Scripts.{Script, cipher_inputs}
+use Rattle.script_text.specs.Scripts.{Script, cipher_inputs, register_lines}
 use Rattle.noise_check.specs.Numbers.{numbers, bound_of, AllCanonical}
 use Rattle.noise_check.specs.RoundedBounds.{rounded_bound, rounded_bounds}
 use Rattle.noise_check.specs.declared.verdict.Verdict.TheVariants.{Accepted, TooNoisy}
-use Rattle.noise_check.specs.Verdicts.{lines_of, first_above, verdict_at, verdict_of}
+use Rattle.noise_check.specs.Verdicts.{first_above, verdict_at, verdict_of}
 use Rattle.noise_check.proofs.BoundLists.{length-numbers, bound_of-value, map-bound_of}
 
 -- the limit, the set and the list as the code has them
@@ -36,12 +36,12 @@ accepted_is script inputs bounds canonical is found =
 
 pub too_noisy_is : (script : Script) (inputs : List ℕ) (bounds : List Bound) (register line : ℕ) (bound limit : Bound) → AllCanonical bounds →
     numbers bounds ≡ rounded_bounds script inputs → Some register ≡ first_above script (numbers bounds) →
-    line ≡ slice_index (lines_of script) register → bound ≡ get_or bounds register bound →
+    line ≡ slice_index (register_lines script) register → bound ≡ get_or bounds register bound →
     IsCanonical limit.m limit.e → bound_value limit.m limit.e ≡ limits.limit (data_of script.set) →
     TooNoisy line bound limit ≡ verdict_of script inputs
 too_noisy_is script inputs bounds register line bound limit canonical is found line_is bound_is limit_canonical limit_is =
     ap (λ line. TooNoisy line bound limit) line_is
-    ∙ ap₂ (λ bound limit. TooNoisy (slice_index (lines_of script) register) bound limit) bound_same limit_same
+    ∙ ap₂ (λ bound limit. TooNoisy (slice_index (register_lines script) register) bound limit) bound_same limit_same
     ∙ verdict_from script inputs (numbers bounds) (Some register) is found
   where
     within : register < length bounds
@@ -68,14 +68,11 @@ length-registers made inputs (step ∷ steps) =
     omega arith
 
 pub register_within : (script : Script) (inputs : List Bound) (bounds : List Bound) (register : ℕ) → length inputs ≡ length (cipher_inputs script.inputs) →
-    numbers bounds ≡ rounded_bounds script (numbers inputs) → Some register ≡ first_above script (numbers bounds) → register < length (lines_of script)
+    numbers bounds ≡ rounded_bounds script (numbers inputs) → Some register ≡ first_above script (numbers bounds) → register < length (cipher_inputs script.inputs) + length script.steps
 unfolding rounded_bounds
 register_within script inputs bounds register each is found =
     let place = position-Some (nat_lt (limits.limit (data_of script.set))) (numbers bounds) register 0 (sym found) in
     let all = ap length is in
     let count = length-registers (λ so_far step. rounded_bound script.set so_far step.op) (numbers inputs) script.steps in
     let given = length-numbers inputs in
-    let first = length-map (cipher_inputs script.inputs) (λ input. input.line) in
-    let second = length-map script.steps (λ step. step.line) in
-    let lines = length-append (map (λ input. input.line) (cipher_inputs script.inputs)) (map (λ step. step.line) script.steps) in
     omega (arith, place.0)

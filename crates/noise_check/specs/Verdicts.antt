@@ -1,7 +1,7 @@
 -- Whether the noise of a script stays within its set's limit.
-use Rattle.std.specs.Prelude.{ℕ, nat_lt, List, ◌++◌, length, map, replicate, position, slice_index, Option, Some, None}
+use Rattle.std.specs.Prelude.{ℕ, nat_lt, List, length, map, replicate, position, slice_index, Option, Some, None}
 use Rattle.set_table.specs.Sets.{degree_of, plain_of, data_of}
-use Rattle.script_text.specs.Scripts.{Script, cipher_inputs}
+use Rattle.script_text.specs.Scripts.{Script, cipher_inputs, register_lines}
 use Rattle.bound_num.specs.Bound.{up}
 use Rattle.bfv_model.specs.Drawn.{greatest_error}
 use Rattle.bfv_model.specs.Limit.{limit}
@@ -15,10 +15,6 @@ use Rattle.noise_check.specs.Numbers.{bound_of}
 abbrev pub fresh_bounds : Script → List ℕ
 fresh_bounds script = replicate (length (cipher_inputs script.inputs)) (up (fresh_bound (degree_of script.set) (plain_of script.set) greatest_error))
 
--- the lines of the text on which the registers are defined
-abbrev pub lines_of : Script → List ℕ
-lines_of script = map (λ input. input.line) (cipher_inputs script.inputs) ++ map (λ step. step.line) script.steps
-
 -- the first register whose bound is above the limit
 abbrev pub first_above : Script → List ℕ → Option ℕ
 first_above script bounds = position (nat_lt (limit (data_of script.set))) bounds
@@ -27,7 +23,7 @@ first_above script bounds = position (nat_lt (limit (data_of script.set))) bound
 abbrev pub verdict_at : Script → List ℕ → Option ℕ → Verdict
 verdict_at script bounds None = Accepted (map bound_of bounds)
 verdict_at script bounds (Some register) =
-    TooNoisy (slice_index (lines_of script) register) (bound_of (slice_index bounds register)) (bound_of (limit (data_of script.set)))
+    TooNoisy (slice_index (register_lines script) register) (bound_of (slice_index bounds register)) (bound_of (limit (data_of script.set)))
 
 -- the verdict on a script whose cipher inputs have these bounds
 abbrev pub verdict_of : Script → List ℕ → Verdict

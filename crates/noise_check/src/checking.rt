@@ -1,5 +1,5 @@
 //! The verdict on a script.
-ghost use Rattle.std.specs.Prelude.{◌≡◌, ◌<◌, ◌≤◌, ◌↔◌, length, nat_lt, position, slice_index, All, IsTrue, IsSome, IfOk};
+ghost use Rattle.std.specs.Prelude.{◌≡◌, ◌<◌, ◌≤◌, ◌↔◌, length, nat_lt, position, All, IsTrue, IsSome, IfOk};
 ghost use Rattle.set_table.specs.Sets.{special_of};
 ghost use Rattle.script_text.specs.Scripts.{cipher_inputs, needs_of};
 ghost use Rattle.bound_num.specs.Bound.{bound_value, IsCanonical};
@@ -11,7 +11,7 @@ use crate::operations::{is_switch, operation_bound};
 use crate::sets::{fresh, limit};
 use crate::verdict::{BoundList, Verdict};
 use bound_num::Bound;
-use script_text::{InputKind, Script};
+use script_text::Script;
 use std::alloc::{AllocError, Global};
 use std::cmp::Ordering;
 
@@ -31,20 +31,6 @@ pub fn switches(script: &Script) -> bool
     false
 }
 
-/// How many inputs of a script are ciphers.
-pub fn cipher_count(script: &Script) -> usize
-    ensures { result ≡ length (cipher_inputs script.now.inputs) }
-{
-    let mut count = 0;
-    for i in 0..script.inputs() {
-        match script.input_kind(i) {
-            InputKind::Cipher => count += 1,
-            InputKind::Plain => {}
-        }
-    }
-    count
-}
-
 /// The bounds of a script's cipher inputs where all of them are fresh.
 pub fn fresh_bounds(alloc: Global, script: &Script) -> Result<Vec<Bound>, AllocError>
     ensures each { IfOk result (λ bounds.
@@ -54,7 +40,7 @@ pub fn fresh_bounds(alloc: Global, script: &Script) -> Result<Vec<Bound>, AllocE
         All (λ bound. bound.e ≤ MAX_INPUT_EXPONENT) bounds.items) }
     ensures values { IfOk result (λ bounds. numbers bounds.items ≡ verdicts.fresh_bounds script.now) }
 {
-    Ok(vec![in alloc; fresh(script.set()); cipher_count(script)]?)
+    Ok(vec![in alloc; fresh(script.set()); script.ciphers()]?)
 }
 
 /// The bounds of all registers, those of the cipher inputs first.
@@ -95,22 +81,6 @@ fn first_above(bounds: &[Bound], limit: Bound) -> Option<usize>
     None
 }
 
-/// The line of the text on which a register is defined.
-fn register_line(script: &Script, register: usize) -> u32
-    requires { register < length (verdicts.lines_of script.now) }
-    ensures { result ≡ slice_index (verdicts.lines_of script.now) register }
-{
-    let mut left = register;
-    for i in 0..script.inputs() {
-        match script.input_kind(i) {
-            InputKind::Cipher if left == 0 => return script.input_line(i),
-            InputKind::Cipher => left -= 1,
-            InputKind::Plain => {}
-        }
-    }
-    script.step_line(left)
-}
-
 /// The verdict on a script whose cipher inputs have these bounds, in their order. The bounds of
 /// files or those of `fresh_bounds` may be given.
 pub fn check(alloc: Global, script: &Script, inputs: &[Bound]) -> Result<Verdict, AllocError>
@@ -125,7 +95,7 @@ pub fn check(alloc: Global, script: &Script, inputs: &[Bound]) -> Result<Verdict
     match first_above(&bounds, limit) {
         None => Ok(Verdict::Accepted(BoundList::new(bounds))),
         Some(register) => Ok(Verdict::TooNoisy(
-            register_line(script, register),
+            script.register_line(register),
             bounds[register],
             limit,
         )),

@@ -3,6 +3,7 @@
 ghost use Rattle.std.specs.Prelude.{◌≡◌, ◌*◌, ◌<◌, ◌≤◌, ℕ, List, length, slice_index, All};
 ghost use Rattle.set_table.specs.Sets.{data_of};
 ghost use Rattle.ring_law.specs.Moduli.{product};
+ghost use Rattle.script_text.specs.Limits.{max_steps};
 ghost use Rattle.script_text.specs.Scripts.{Script};
 ghost use Rattle.bound_num.specs.declared.Bound.{Bound};
 ghost use Rattle.bound_num.specs.Bound.{bound_value, IsCanonical};
@@ -14,18 +15,18 @@ ghost use Rattle.noise_check.specs.Verdicts.{verdict_of};
 
 use crate::verdict::Verdict;
 
-/// Both lists begin with the same bounds of the cipher inputs. Over at most 4,096 steps, which is as
-/// many as a script has, a rounded bound exceeds the exact one by at most one part in 65,536. So it
+/// Both lists begin with the same bounds of the cipher inputs. Over at most `MAX_STEPS` steps, which is
+/// as many as a script has, a rounded bound exceeds the exact one by at most one part in 65,536. So it
 /// is above the limit only where eight times the exact one is above the product of the data moduli.
 pub fn law_of_rounding()
     ensures never_below { (script : Script) (inputs : List ℕ) (register : ℕ)
         → slice_index (exact_bounds script inputs) register
         ≤ slice_index (rounded_bounds script inputs) register }
-    ensures near { (script : Script) (inputs : List ℕ) (register : ℕ) → length script.steps ≤ 4096
+    ensures near { (script : Script) (inputs : List ℕ) (register : ℕ) → length script.steps ≤ max_steps
         → 65536 * slice_index (rounded_bounds script inputs) register
         ≤ 65537 * slice_index (exact_bounds script inputs) register }
     ensures above_limit { (script : Script) (inputs : List ℕ) (register : ℕ)
-        → length script.steps ≤ 4096
+        → length script.steps ≤ max_steps
         → limit (data_of script.set) < slice_index (rounded_bounds script inputs) register
         → product (data_of script.set) < 8 * slice_index (exact_bounds script inputs) register }
 {}
@@ -61,7 +62,7 @@ pub fn law_of_verdicts()
         → verdict_of script (numbers inputs) ≡ Verdict.TooNoisy line bound most
         → limit (data_of script.set) < bound_value bound.m bound.e }
     ensures too_noisy_exactly { (script : Script) (inputs : List ℕ) (line : ℕ) (bound most : Bound)
-        → length script.steps ≤ 4096
+        → length script.steps ≤ max_steps
         → verdict_of script inputs ≡ Verdict.TooNoisy line bound most
         → (register : ℕ)
         × (product (data_of script.set) < 8 * slice_index (exact_bounds script inputs) register) }

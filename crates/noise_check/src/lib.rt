@@ -10,7 +10,7 @@ mod sets;
 mod tests;
 mod verdict;
 
-pub use checking::{MAX_INPUT_EXPONENT, check, cipher_count, fresh_bounds, switches};
+pub use checking::{MAX_INPUT_EXPONENT, check, fresh_bounds, switches};
 pub use laws::{law_of_rounding, law_of_verdicts};
 pub use sets::{fresh, limit};
 pub use verdict::{BoundList, Verdict};

@@ -1,4 +1,4 @@
-use crate::{Verdict, check, cipher_count, fresh, fresh_bounds, limit, switches};
+use crate::{Verdict, check, fresh, fresh_bounds, limit, switches};
 use bound_num::Bound;
 use script_text::{Script, parse};
 use set_table::SetName;
@@ -250,7 +250,7 @@ fn takes_the_bounds_of_inputs(rt: HostRuntime) -> Result<(), Fail> {
         fresh_bounds(rt.alloc(), &script)?.as_slice(),
         [bound(178358, 0); 2].as_slice()
     );
-    assert_eq!(rt; cipher_count(&script), 2);
+    assert_eq!(rt; script.ciphers(), 2);
 
     let small = Bound { m: 5, e: 0 };
     let accepted = check(rt.alloc(), &script, &[small, TOY16_LIMIT])?;

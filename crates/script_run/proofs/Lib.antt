@@ -5,6 +5,7 @@ pub mod SplitPlaces
 pub mod Registers
 pub mod Premises
 pub mod Live
+pub mod LiveTests
 pub mod Inputs
 pub mod Plans
 pub mod Running

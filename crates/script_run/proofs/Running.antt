@@ -9,7 +9,8 @@ use Rattle.bfv_params.specs.Values.{CipherValue, ContextValue}
 use Rattle.bfv_params.specs.Ciphers.{IsCipherOf}
 use Rattle.script_text.specs.declared.script.Op.{Op}
 use Rattle.script_text.specs.declared.script.Step.{Step}
-use Rattle.script_text.specs.Scripts.{Script, registers, parts_made, is_cipher, is_plain, plain_inputs}
+use Rattle.script_text.specs.declared.script.Shape.{Shape}
+use Rattle.script_text.specs.Scripts.{Script, registers, input_shape, shape_at, shape_made, is_cipher, is_plain, plain_inputs}
 use Rattle.script_text.specs.Value.{lists_of, value_made, value_of}
 use Rattle.script_text.specs.Evaluating.{IsWithin}
 use Rattle.script_run.proofs.Inputs.{lists_counted}
@@ -24,9 +25,9 @@ use Rattle.script_run.proofs.Registers.{registers-before, registers-result, regi
 use Rattle.script_run.proofs.Premises.{bounds_before, step_premise}
 use Rattle.script_run.proofs.Live.{live_before, on_plain, on_reads, operand_live, output_live}
 
--- what the registers before step i are to have: parts, values and bounds
-abbrev pub parts_before : Script → ℕ → List ℕ
-parts_before script i = registers parts_made (replicate (input_count script) 2) (take i script.steps)
+-- what the registers before step i are to have: shapes, values and bounds
+abbrev pub shapes_before : Script → ℕ → List Shape
+shapes_before script i = registers shape_made (replicate (input_count script) input_shape) (take i script.steps)
 
 abbrev pub values_before : SetName → Script → List (List ℕ) → ℕ → List (List ℕ)
 values_before set script lists i =
@@ -37,7 +38,7 @@ pub record Ran (n : ℕ) (ctx : ContextValue) (told : Digits → Type 0) (script
   pub size : length places ≡ length old
   pub of_context : (p : ℕ) → p < length places → IsCipherOf ctx (cipher_at places p)
   pub rooms : (p : ℕ) → (cipher_at places p).room ≡ (cipher_at old p).room
-  pub parts : (r : ℕ) → Live script i r → (cipher_at places (slice_index plan r)).parts ≡ slice_index (parts_before script i) r
+  pub parts : (r : ℕ) → Live script i r → (cipher_at places (slice_index plan r)).parts ≡ (shape_at (shapes_before script i) r).parts
   pub carries : (s : ℕ → ℤ) (lists : List (List ℕ)) (bounds : List ℕ) → InputsCarry n ctx s script plan old plains lists bounds → RunPremise n ctx told s script bounds → (r : ℕ) → Live script i r
       → Carries n ctx s (cipher_at places (slice_index plan r)) (slice_index_or (values_before ctx.set script lists i) r []) (slice_index (bounds_before ctx.set script bounds i) r)
 
@@ -52,14 +53,14 @@ module _ (n : ℕ) (ctx : ContextValue) (told : Digits → Type 0) (script : Scr
   here : (r : ℕ) → r ≡ input_count script + i → cipher_at new (slice_index plan r) ≡ cipher_at new out
   here r result = ap (cipher_at new) (ap (slice_index plan) result ∙ sym place)
 
-  parts_next : (r : ℕ) → Live script (suc i) r → (cipher_at new (slice_index plan r)).parts ≡ slice_index (parts_before script (suc i)) r
+  parts_next : (r : ℕ) → Live script (suc i) r → (cipher_at new (slice_index plan r)).parts ≡ (shape_at (shapes_before script (suc i)) r).parts
   parts_next r live = ⊎_elim
       (λ live_then. ap (λ (c : CipherValue). c.parts) (before r live_then) ∙ ran.parts r live_then
-      ∙ sym (registers-before parts_made (replicate (input_count script) 2) script.steps i step below is r 0 (subst (λ (k : ℕ). r < k + i) (sym (length-replicate (input_count script) 2)) live_then.defined)))
+      ∙ sym (ap (λ (shape : Shape). shape.parts) (registers-before shape_made (replicate (input_count script) input_shape) script.steps i step below is r (record { parts = 0 }) (subst (λ (k : ℕ). r < k + i) (sym (length-replicate {A = Shape} (input_count script) input_shape)) live_then.defined))))
       (λ result. ap (λ (c : CipherValue). c.parts) (here r result)
-      ∙ done.parts (parts_before script i) (on_reads op _ (λ t reads. ran.parts t (operand_live script i op step _ _ t is same within reads)))
-      ∙ ap (parts_made (parts_before script i)) same
-      ∙ sym (registers-result parts_made (replicate (input_count script) 2) script.steps i step below is r 0 (result ∙ ap (λ (k : ℕ). k + i) (sym (length-replicate (input_count script) 2)))))
+      ∙ done.parts (shapes_before script i) (on_reads op _ (λ t reads. ran.parts t (operand_live script i op step _ _ t is same within reads)))
+      ∙ ap (λ (o : Op). (shape_made (shapes_before script i) o).parts) same
+      ∙ sym (ap (λ (shape : Shape). shape.parts) (registers-result shape_made (replicate (input_count script) input_shape) script.steps i step below is r (record { parts = 0 }) (result ∙ ap (λ (k : ℕ). k + i) (sym (length-replicate {A = Shape} (input_count script) input_shape))))))
       (live_before script i r live)
 
   carries_next : (s : ℕ → ℤ) (lists : List (List ℕ)) (bounds : List ℕ) → InputsCarry n ctx s script plan old plains lists bounds → RunPremise n ctx told s script bounds → (r : ℕ) → Live script (suc i) r

@@ -1,5 +1,6 @@
 -- When a register of a script is live, and plans that give each register a place.
-use Rattle.std.specs.Prelude.{◌≡◌, ◌≢◌, ◌⊎◌, ℕ, ◌+◌, ◌<◌, ◌≤◌, List, length, slice_index, slice_get, Some, Contains}
+use Rattle.std.specs.Prelude.{◌≡◌, ◌≢◌, ◌⊎◌, ℕ, ◌+◌, ◌<◌, ◌≤◌, Bool, ◌||◌, ◌&&◌, ◌==◌, nat_lt, List, drop, length, slice_index, slice_get, Some, Contains}
+use Rattle.std.specs.List.{list_any}
 use Rattle.script_text.specs.declared.script.Step.{Step}
 use Rattle.script_text.specs.Scripts.{Script, cipher_inputs, operands_of}
 
@@ -16,6 +17,14 @@ IsReadFrom script i r = (j : ℕ) × (step : Step) × (i ≤ j) × (slice_get sc
 pub record Live (script : Script) (i r : ℕ) : Type 0 where
   pub defined : r < input_count script + i
   pub needed : (i ≡ 0) ⊎ ((r ≡ script.output) ⊎ IsReadFrom script i r)
+
+-- whether step i or a later one reads the register
+abbrev pub is_read_from : Script → ℕ → ℕ → Bool
+is_read_from script i r = list_any (λ step. list_any (λ operand. r == operand) (operands_of step.op)) (drop i script.steps)
+
+-- whether the register is live before step i: a test, so that live registers can be counted
+abbrev pub is_live : Script → ℕ → ℕ → Bool
+is_live script i r = nat_lt r (input_count script + i) && ((i == 0) || ((r == script.output) || is_read_from script i r))
 
 -- A plan gives each register one of `count` places. No two registers that are live at one moment have the same, and the result of a
 -- step has the place of no register that is live before that step.

@@ -3,7 +3,8 @@ use Rattle.std.specs.Prelude.{◌≡◌, ◌≢◌, ℕ, ◌+◌, ◌-◌, ◌<�
 use Rattle.std.specs.List.{AllByRecursion}
 use Rattle.set_table.specs.Sets.{plain_of, degree_of}
 use Rattle.script_text.specs.declared.script.Op.{Op}
-use Rattle.script_text.specs.Scripts.{operands_of, parts_made, plain_operand_of}
+use Rattle.script_text.specs.declared.script.Shape.{Shape}
+use Rattle.script_text.specs.Scripts.{operands_of, shape_at, shape_made, plain_operand_of}
 use Rattle.script_text.specs.Value.{value_made}
 use Rattle.noise_check.specs.ExactBounds.{exact_bound}
 use Rattle.bfv_params.specs.Values.{CipherValue, ContextValue}
@@ -34,7 +35,7 @@ ResultCarries n ctx told op plains operand result =
 -- how many parts it has, if the operands have so many
 abbrev pub ResultHasParts : Op → (ℕ → CipherValue) → CipherValue → Type 0
 ResultHasParts op operand result =
-    (parts : List ℕ) → OnOperands op (λ r. (operand r).parts ≡ slice_index parts r) → result.parts ≡ parts_made parts op
+    (shapes : List Shape) → OnOperands op (λ r. (operand r).parts ≡ (shape_at shapes r).parts) → result.parts ≡ (shape_made shapes op).parts
 
 -- A step was done: nothing but the result's place changed, which has the operation's result.
 pub record StepDone (n : ℕ) (ctx : ContextValue) (told : Digits → Type 0) (op : Op) (plan : List ℕ) (plains : List (List ℕ)) (out : ℕ) (old new : List CipherValue) : Type 0 where

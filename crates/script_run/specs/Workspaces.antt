@@ -1,5 +1,5 @@
 -- What contracts see of a workspace, and when it is made for a script.
-use Rattle.std.specs.Prelude.{◌≡◌, ◌≢◌, ℕ, ◌+◌, ◌*◌, ◌<◌, ◌≤◌, List, length, slice_index, Bool, true}
+use Rattle.std.specs.Prelude.{◌≡◌, ◌≢◌, ℕ, ◌<◌, ◌≤◌, List, length, slice_index, Bool, true}
 use Rattle.set_table.specs.declared.SetName.{SetName}
 use Rattle.set_table.specs.Sets.{degree_of, data_of}
 use Rattle.script_text.specs.Scripts.{Script, plain_inputs}

@@ -4,6 +4,7 @@
 //! and the result is read; then they may be filled again.
 #![tactic(auto)]
 
+mod laws;
 mod linear;
 mod run;
 mod step;
@@ -11,5 +12,6 @@ mod step;
 mod tests;
 mod workspace;
 
+pub use laws::law_of_live;
 pub use linear::first_nonlinear;
 pub use workspace::Workspace;

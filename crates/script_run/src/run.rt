@@ -3,7 +3,7 @@
 ghost use Rattle.std.specs.Prelude.{◌≡◌, ℕ, ◌+◌, ◌*◌, ◌<◌, ◌≤◌, ℤ, List, [], length, slice_index, slice_index_or, true, All};
 ghost use Rattle.set_table.specs.Sets.{degree_of, plain_of};
 ghost use Rattle.ring_law.specs.Rows.{IsReduced};
-ghost use Rattle.script_text.specs.Scripts.{parts_of, plain_inputs, is_linear};
+ghost use Rattle.script_text.specs.Scripts.{shape_at, shapes_of, plain_inputs, is_linear};
 ghost use Rattle.script_text.specs.Value.{value_of};
 ghost use Rattle.noise_check.specs.ExactBounds.{exact_bounds};
 ghost use Rattle.bfv_params.specs.Ciphers.{IsCipherOf};
@@ -15,7 +15,6 @@ ghost use Rattle.script_run.specs.Premises.{RunPremise, no_digits};
 
 use crate::step::step;
 use bfv_params::{Cipher, Context};
-use noise_check::cipher_count;
 use rns_poly::PolyBuf;
 use script_text::Script;
 
@@ -43,7 +42,7 @@ pub fn run<const N: usize>(
     ensures count { length ciphers.new ≡ length ciphers.old }
     ensures places { (p : ℕ) → p < length ciphers.new → IsCipherOf ctx.now (cipher_at ciphers.new p) }
     ensures rooms { (p : ℕ) → (cipher_at ciphers.new p).room ≡ (cipher_at ciphers.old p).room }
-    ensures parts { (cipher_at ciphers.new result).parts ≡ slice_index (parts_of script.now.inputs script.now.steps) script.now.output }
+    ensures parts { (cipher_at ciphers.new result).parts ≡ (shape_at (shapes_of script.now.inputs script.now.steps) script.now.output).parts }
     ensures carries { (s : ℕ → ℤ) (lists : List (List ℕ)) (bounds : List ℕ)
         → InputsCarry N ctx.now s script.now plan.now ciphers.old plains.now lists bounds
         → RunPremise N ctx.now no_digits s script.now bounds
@@ -51,7 +50,7 @@ pub fn run<const N: usize>(
     ensures scratch_rows { length scratch.new ≡ length scratch.old }
 {
     let output = script.output();
-    let inputs = cipher_count(script);
+    let inputs = script.ciphers();
     for i in 0..script.steps() {
         step(
             ctx,

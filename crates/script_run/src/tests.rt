@@ -12,7 +12,6 @@ ghost use Rattle.script_run.specs.Workspaces.{MadeFor, SameShape, input_of};
 use crate::{Workspace, first_nonlinear};
 use bfv_params::{Cipher, Context};
 use key_switch::{KeyFault, Keys};
-use noise_check::cipher_count;
 use rns_poly::ViewMut;
 use script_text::{Script, parse};
 use set_table::{KeyKind, SetName};
@@ -201,7 +200,7 @@ fn check_run<const N: usize>(
     let script = parse(alloc, text)?;
     let set = script.set();
     assert_eq!(rt; set.degree(), N);
-    assert_eq!(rt; cipher_count(&script), 2);
+    assert_eq!(rt; script.ciphers(), 2);
     assert_eq!(rt; script.inputs(), 3);
     let None = first_nonlinear(&script) else {
         panic!(rt; "a step isn't linear");

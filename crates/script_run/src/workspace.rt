@@ -4,7 +4,7 @@ ghost use Rattle.std.specs.Prelude.{◌≡◌, ℕ, ◌+◌, ◌<◌, ◌≤◌,
 ghost use Rattle.std.specs.Borrow.{sem, Lends, Array, u64};
 ghost use Rattle.set_table.specs.Sets.{data_of, plain_of};
 ghost use Rattle.ring_law.specs.Rows.{IsReduced};
-ghost use Rattle.script_text.specs.Scripts.{parts_of, plain_inputs, is_linear};
+ghost use Rattle.script_text.specs.Scripts.{shape_at, shapes_of, plain_inputs, is_linear};
 ghost use Rattle.script_text.specs.Value.{value_of};
 ghost use Rattle.noise_check.specs.ExactBounds.{exact_bounds};
 ghost use Rattle.bfv_params.specs.Values.{zero_cipher};
@@ -21,7 +21,6 @@ ghost use Rattle.script_run.specs.contracts.workspace.Workspace.{the_row};
 use crate::run::run;
 use bfv_params::{Cipher, Context};
 use key_switch::{KeyFault, Keys};
-use noise_check::cipher_count;
 use rns_poly::PolyBuf;
 use script_text::Script;
 use set_table::SetName;
@@ -65,7 +64,7 @@ impl<const N: usize> Workspace<N> {
         ensures inputs { IfOk result (λ w. (r : ℕ) → r < w.inputs → input_of w r ≡ zero_cipher N (ctx.now).set (ctx.now).level) }
         ensures not_done { IfOk result (λ w. w.done ≡ false) }
     {
-        let inputs = cipher_count(script);
+        let inputs = script.ciphers();
         let registers = inputs + script.steps();
         Ok(Workspace {
             set: ctx.set(),
@@ -131,7 +130,7 @@ impl<const N: usize> Workspace<N> {
         ensures done { OnOk result ((self.new).done ≡ true) }
         ensures not_done { OnErr result ((self.new).done ≡ false) }
         ensures of_context { OnOk result (IsCipherOf ctx.now (output_of self.new)) }
-        ensures parts { OnOk result ((output_of self.new).parts ≡ slice_index (parts_of script.now.inputs script.now.steps) script.now.output) }
+        ensures parts { OnOk result ((output_of self.new).parts ≡ (shape_at (shapes_of script.now.inputs script.now.steps) script.now.output).parts) }
         ensures value { (s : ℕ → ℤ) (lists : List (List ℕ)) (bounds : List ℕ)
             → InputsCarry N ctx.now s script.now (self.old).plan (self.old).places (self.old).plains lists bounds
             → RunPremise N ctx.now (K.Tells keys.old) s script.now bounds

@@ -3,6 +3,7 @@ use Rattle.std.proofs.Common.{◌≡◌, ℕ, ◌+◌, ◌≤◌, Bool, false, �
 use Rattle.std.specs.Prelude.{Option, None, Result, Ok}
 use Rattle.std.specs.List.{count_by}
 use Rattle.std.proofs.lemmas.Bool.{le-ltb}
+use Rattle.script_text.specs.Limits.{max_script_bytes, max_inputs, max_steps}
 use Rattle.script_text.specs.declared.faults.ScriptPlace.{ScriptPlace}
 use Rattle.script_text.specs.declared.faults.ScriptPlace.TheVariants.{TooLong}
 use Rattle.script_text.specs.Scripts.{Script, IsSound}
@@ -29,9 +30,9 @@ printed_fits : (script : Script) → IsSound script → is_too_long (printed_scr
 printed_fits script sound =
     let lines = printed_lines script sound in
     none_holds _ _ _
-    (le-ltb 1048576 (length (printed_script script)) (short_printed script sound))
-    (le-ltb 64 _ (subst (λ (l : List Line). count_by (λ line. is_input_line line.words) l ≤ 64) (sym lines) (few_inputs script sound)))
-    (le-ltb 4096 _ (subst (λ (l : List Line). count_by (λ line. is_step_line line.words) l ≤ 4096) (sym lines) (few_steps script sound)))
+    (le-ltb max_script_bytes (length (printed_script script)) (short_printed script sound))
+    (le-ltb max_inputs _ (subst (λ (l : List Line). count_by (λ line. is_input_line line.words) l ≤ max_inputs) (sym lines) (few_inputs script sound)))
+    (le-ltb max_steps _ (subst (λ (l : List Line). count_by (λ line. is_step_line line.words) l ≤ max_steps) (sym lines) (few_steps script sound)))
 
 -- reading the printed text gives the script with the lines of that text
 pub read_again : (script : Script) → IsSound script → script_of (printed_script script) ≡ Ok (renumbered script)

@@ -9,10 +9,11 @@ use Rattle.set_table.specs.declared.SetName.{SetName}
 use Rattle.set_table.specs.declared.SetName.TheVariants.{One16, Toy16, S4096, S8192, S16384}
 use Rattle.set_table.specs.Sets.{name_of}
 use Rattle.line_text.specs.Names.{is_name}
-use Rattle.script_text.specs.Scripts.{Script, IsSound}
+use Rattle.script_text.specs.Limits.{max_inputs, max_steps}
+use Rattle.script_text.specs.Scripts.{Script, IsSound, register_names}
 use Rattle.line_text.specs.Lines.{Line}
 use Rattle.script_text.specs.Grammar.{is_input_line, is_step_line}
-use Rattle.script_text.specs.Printed.{register_names, plain_names}
+use Rattle.script_text.specs.Printed.{plain_names}
 use Rattle.script_text.proofs.PrintedScripts.{input_words, step_words, script_lines, numbered_words}
 use Rattle.script_text.proofs.PrintedSizes.{sound_names, name_differs, length-register_names}
 
@@ -76,7 +77,7 @@ set_no_input S16384 = refl
 output_no_input : (name : List ℕ) → is_name name ≡ true → is_input_line (codes "output" ∷ name ∷ []) ≡ false
 output_no_input name is = rw (name_differs name is) refl
 
-pub few_inputs : (script : Script) → IsSound script → count_by (λ line. is_input_line line.words) (numbered_words 1 (script_lines script)) ≤ 64
+pub few_inputs : (script : Script) → IsSound script → count_by (λ line. is_input_line line.words) (numbered_words 1 (script_lines script)) ≤ max_inputs
 unfolding step_words
 few_inputs script sound =
     let numbered = count_numbered is_input_line 1 (script_lines script) in
@@ -86,7 +87,7 @@ few_inputs script sound =
     let few = sound.few_inputs in
     omega (arith, numbered, parts, inputs, steps, few)
 
-pub few_steps : (script : Script) → IsSound script → count_by (λ line. is_step_line line.words) (numbered_words 1 (script_lines script)) ≤ 4096
+pub few_steps : (script : Script) → IsSound script → count_by (λ line. is_step_line line.words) (numbered_words 1 (script_lines script)) ≤ max_steps
 unfolding input_words
 few_steps script sound =
     let numbered = count_numbered is_step_line 1 (script_lines script) in

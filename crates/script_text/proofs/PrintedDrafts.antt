@@ -1,5 +1,5 @@
 -- The lines of a printed script give the draft of the script with the lines of its text.
-use Rattle.std.proofs.Common.{◌≡◌, ◌≢◌, ◌<◌, ◌≤◌, ◌==◌, ℕ, zero, suc, ◌+◌, ◌/◌, List, [], ◌∷◌, ◌++◌, length, map, replicate, get_or, position, Bool, true, false, not, cond, ◌&&◌, nat_lt, nat_le, Some, None, Ok, codes, refl, sym, ap, ap₂, ◌∙◌, subst, arith, append_assoc, length-append, slice_index}
+use Rattle.std.proofs.Common.{◌≡◌, ◌≢◌, ◌<◌, ◌≤◌, ℕ, zero, suc, ◌+◌, ◌/◌, List, [], ◌∷◌, ◌++◌, length, map, replicate, get_or, position, Bool, true, false, not, cond, ◌&&◌, nat_lt, nat_le, Some, None, Ok, codes, refl, sym, ap, ap₂, ◌∙◌, subst, arith, append_assoc, length-append}
 use Rattle.std.specs.Prelude.{is_none, decimal}
 use Rattle.std.specs.List.{list_all, position_or_len, filter, AllPairs}
 use Rattle.std.specs.Str.{bytes_eq}
@@ -11,7 +11,7 @@ use Rattle.std.proofs.lemmas.List.Folds.{list_all-append}
 use Rattle.std.proofs.lemmas.Slice.Eq.{bytes_eq-Decides}
 use Rattle.set_table.specs.declared.SetName.{SetName}
 use Rattle.set_table.specs.declared.SetName.TheVariants.{One16, Toy16, S4096, S8192, S16384}
-use Rattle.set_table.specs.Sets.{name_of, degree_of, plain_of}
+use Rattle.set_table.specs.Sets.{name_of, degree_of, plain_of, set_named}
 use Rattle.script_text.specs.declared.keyword.Keyword.{Keyword}
 use Rattle.script_text.specs.declared.keyword.Keyword.TheVariants as keyword
 use Rattle.script_text.specs.declared.script.InputKind.{InputKind}
@@ -22,10 +22,12 @@ use Rattle.script_text.specs.declared.script.Input.{Input}
 use Rattle.script_text.specs.declared.script.Step.{Step}
 use Rattle.line_text.specs.Names.{written_number, is_name, is_number, is_number_in}
 use Rattle.script_text.specs.Keywords.{keyword_text, second_of, operation}
-use Rattle.script_text.specs.Scripts.{Script, IsSound, cipher_inputs, plain_inputs, names_of, parts_of, parts_made, AllFit, Fits}
-use Rattle.script_text.specs.Grammar.{Draft, register_named, plain_named, is_new, set_line, input_line, output_line, short_line, takes_one, is_second, second_value, has_shape, with_step, short_step, long_step, keyword_after, next_line, after_line, after_lines}
-use Rattle.script_text.specs.Printed.{kind_text, keyword_of, first_operand, second_words, register_names, plain_names, inputs_from, steps_from, renumbered}
-use Rattle.script_text.proofs.Registers.{length-parts_of}
+use Rattle.script_text.specs.declared.script.Shape.{Shape}
+use Rattle.script_text.specs.Scripts.{Script, IsSound, cipher_inputs, plain_inputs, names_of, shapes_of, shape_made, AllFit, Fits, register_names, input_shape, has_shape}
+use Rattle.script_text.specs.Grammar.{Draft, register_named, plain_named, is_new, set_line, input_line, output_line, short_line, takes_one, is_second, second_value, with_step, short_step, long_step, keyword_after, next_line, after_line, after_lines}
+use Rattle.script_text.specs.Printed.{kind_text, keyword_of, first_operand, second_words, plain_names, inputs_from, steps_from, renumbered}
+use Rattle.script_text.proofs.Fitting.{parts_tested}
+use Rattle.script_text.proofs.Registers.{length-shapes_of}
 use Rattle.script_text.proofs.SecondOperand.{plain_small, degree_small}
 use Rattle.script_text.proofs.PrintedNumbers.{decimal_is_number, written_decimal}
 use Rattle.script_text.proofs.PrintedScripts.{input_words, step_words, script_lines, numbered_words}
@@ -185,27 +187,23 @@ is_new_name draft name more differ =
 
 -- what can be read before a step: the registers and the plain inputs by their names
 record CanRead (draft : Draft) (registers plains : List (List ℕ)) : Type 0 where
-  register : (i : ℕ) → i < length (parts_of draft.inputs draft.steps) → (register_named draft (get_or registers i []) ≡ Some i) × (is_name (get_or registers i []) ≡ true)
+  register : (i : ℕ) → i < length (shapes_of draft.inputs draft.steps) → (register_named draft (get_or registers i []) ≡ Some i) × (is_name (get_or registers i []) ≡ true)
   plain : (i : ℕ) → i < length (plain_inputs draft.inputs) → (plain_named draft (get_or plains i []) ≡ Some i) × (is_name (get_or plains i []) ≡ true)
 
--- the test of the parts that a register has
-has_parts : (parts : List ℕ) (i n : ℕ) → slice_index parts i ≡ n → (slice_index parts i == n) ≡ true
-has_parts parts i n is = grind (arith, nat_tests)
-
--- an operation that fits has the parts that it takes
-shape_fits : (set : SetName) (plains : ℕ) (parts : List ℕ) (op : Op) → Fits set plains parts op → has_shape parts op ≡ true
+-- an operation that fits finds the parts that it takes
+shape_fits : (set : SetName) (plains : ℕ) (shapes : List Shape) (op : Op) → Fits set plains shapes op → has_shape shapes op ≡ true
 unfolding has_shape
-shape_fits set plains parts (Add a b) fits = refl
-shape_fits set plains parts (Sub a b) fits = refl
-shape_fits set plains parts (Neg a) fits = refl
-shape_fits set plains parts (AddPlain a p) fits = refl
-shape_fits set plains parts (SubPlain a p) fits = refl
-shape_fits set plains parts (MulPlain a p) fits = refl
-shape_fits set plains parts (MulConst a k) fits = refl
-shape_fits set plains parts (Mul a b) fits = and_from (slice_index parts a == 2) (slice_index parts b == 2) (has_parts parts a 2 fits.taken.0) (has_parts parts b 2 fits.taken.1.0)
-shape_fits set plains parts (Relin a) fits = has_parts parts a 3 fits.taken.0
-shape_fits set plains parts (Turn a k) fits = has_parts parts a 2 fits.taken.0
-shape_fits set plains parts (Swap a) fits = has_parts parts a 2 fits.taken.0
+shape_fits set plains shapes (Add a b) fits = refl
+shape_fits set plains shapes (Sub a b) fits = refl
+shape_fits set plains shapes (Neg a) fits = refl
+shape_fits set plains shapes (AddPlain a p) fits = refl
+shape_fits set plains shapes (SubPlain a p) fits = refl
+shape_fits set plains shapes (MulPlain a p) fits = refl
+shape_fits set plains shapes (MulConst a k) fits = refl
+shape_fits set plains shapes (Mul a b) fits = parts_tested shapes 2 (a ∷ b ∷ []) fits.taken
+shape_fits set plains shapes (Relin a) fits = parts_tested shapes 3 (a ∷ []) fits.taken
+shape_fits set plains shapes (Turn a k) fits = parts_tested shapes 2 (a ∷ []) fits.taken
+shape_fits set plains shapes (Swap a) fits = parts_tested shapes 2 (a ∷ []) fits.taken
 
 -- the keyword of a step is known by its text
 known : (k : Keyword) → keyword_after (codes "=") (keyword_text k) ≡ Some k
@@ -224,7 +222,7 @@ known keyword.Swap = refl
 
 -- a step without second operand
 short_read : (draft : Draft) (at : ℕ) (name : List ℕ) (k : Keyword) (word : List ℕ) (a : ℕ) → is_name name ≡ true → is_new draft name ≡ true
-    → (register_named draft word ≡ Some a) × (is_name word ≡ true) → takes_one (second_of k) ≡ true → has_shape (parts_of draft.inputs draft.steps) (operation k a 0) ≡ true
+    → (register_named draft word ≡ Some a) × (is_name word ≡ true) → takes_one (second_of k) ≡ true → has_shape (shapes_of draft.inputs draft.steps) (operation k a 0) ≡ true
     → next_line draft at (name ∷ codes "=" ∷ keyword_text k ∷ word ∷ []) ≡ Ok (record draft { steps = draft.steps ++ record { name = name; op = operation k a 0; line = at } ∷ [] })
 unfolding next_line short_step with_step
 short_read draft at name k word a named new first one shape = rw (known k, named, first.1, one, new, first.0, shape) refl
@@ -232,7 +230,7 @@ short_read draft at name k word a named new first one shape = rw (known k, named
 -- a step with a second operand
 long_read : (draft : Draft) (at : ℕ) (name : List ℕ) (k : Keyword) (word other : List ℕ) (a b : ℕ) → is_name name ≡ true → is_new draft name ≡ true
     → (register_named draft word ≡ Some a) × (is_name word ≡ true) → (second_value draft (second_of k) other ≡ Some b) × (is_second draft.set (second_of k) other ≡ true)
-    → has_shape (parts_of draft.inputs draft.steps) (operation k a b) ≡ true
+    → has_shape (shapes_of draft.inputs draft.steps) (operation k a b) ≡ true
     → next_line draft at (name ∷ codes "=" ∷ keyword_text k ∷ word ∷ other ∷ []) ≡ Ok (record draft { steps = draft.steps ++ record { name = name; op = operation k a b; line = at } ∷ [] })
 unfolding next_line long_step with_step
 long_read draft at name k word other a b named new first second shape = rw (known k, named, first.1, second.1, new, first.0, second.0, shape) refl
@@ -260,36 +258,36 @@ distance_read draft k some below =
 
 -- the line of a step
 step_read : (draft : Draft) (registers plains : List (List ℕ)) (at : ℕ) (name : List ℕ) (op : Op) → CanRead draft registers plains → is_name name ≡ true → is_new draft name ≡ true
-    → Fits draft.set (length (plain_inputs draft.inputs)) (parts_of draft.inputs draft.steps) op
+    → Fits draft.set (length (plain_inputs draft.inputs)) (shapes_of draft.inputs draft.steps) op
     → next_line draft at (name ∷ codes "=" ∷ keyword_text (keyword_of op) ∷ get_or registers (first_operand op) [] ∷ second_words registers plains op)
     ≡ Ok (record draft { steps = draft.steps ++ record { name = name; op = op; line = at } ∷ [] })
 unfolding is_second second_value
 step_read draft registers plains at name (Add a b) can named new fits =
-    long_read draft at name keyword.Add (get_or registers a []) (get_or registers b []) a b named new (can.register a fits.operands.0) (can.register b fits.operands.1.0) (shape_fits draft.set (length (plain_inputs draft.inputs)) (parts_of draft.inputs draft.steps) (Add a b) fits)
+    long_read draft at name keyword.Add (get_or registers a []) (get_or registers b []) a b named new (can.register a fits.operands.0) (can.register b fits.operands.1.0) (shape_fits draft.set (length (plain_inputs draft.inputs)) (shapes_of draft.inputs draft.steps) (Add a b) fits)
 step_read draft registers plains at name (Sub a b) can named new fits =
-    long_read draft at name keyword.Sub (get_or registers a []) (get_or registers b []) a b named new (can.register a fits.operands.0) (can.register b fits.operands.1.0) (shape_fits draft.set (length (plain_inputs draft.inputs)) (parts_of draft.inputs draft.steps) (Sub a b) fits)
+    long_read draft at name keyword.Sub (get_or registers a []) (get_or registers b []) a b named new (can.register a fits.operands.0) (can.register b fits.operands.1.0) (shape_fits draft.set (length (plain_inputs draft.inputs)) (shapes_of draft.inputs draft.steps) (Sub a b) fits)
 step_read draft registers plains at name (Neg a) can named new fits =
-    short_read draft at name keyword.Neg (get_or registers a []) a named new (can.register a fits.operands.0) refl (shape_fits draft.set (length (plain_inputs draft.inputs)) (parts_of draft.inputs draft.steps) (Neg a) fits)
+    short_read draft at name keyword.Neg (get_or registers a []) a named new (can.register a fits.operands.0) refl (shape_fits draft.set (length (plain_inputs draft.inputs)) (shapes_of draft.inputs draft.steps) (Neg a) fits)
 step_read draft registers plains at name (AddPlain a p) can named new fits =
-    long_read draft at name keyword.AddPlain (get_or registers a []) (get_or plains p []) a p named new (can.register a fits.operands.0) (can.plain p fits.plain) (shape_fits draft.set (length (plain_inputs draft.inputs)) (parts_of draft.inputs draft.steps) (AddPlain a p) fits)
+    long_read draft at name keyword.AddPlain (get_or registers a []) (get_or plains p []) a p named new (can.register a fits.operands.0) (can.plain p fits.plain) (shape_fits draft.set (length (plain_inputs draft.inputs)) (shapes_of draft.inputs draft.steps) (AddPlain a p) fits)
 step_read draft registers plains at name (SubPlain a p) can named new fits =
-    long_read draft at name keyword.SubPlain (get_or registers a []) (get_or plains p []) a p named new (can.register a fits.operands.0) (can.plain p fits.plain) (shape_fits draft.set (length (plain_inputs draft.inputs)) (parts_of draft.inputs draft.steps) (SubPlain a p) fits)
+    long_read draft at name keyword.SubPlain (get_or registers a []) (get_or plains p []) a p named new (can.register a fits.operands.0) (can.plain p fits.plain) (shape_fits draft.set (length (plain_inputs draft.inputs)) (shapes_of draft.inputs draft.steps) (SubPlain a p) fits)
 step_read draft registers plains at name (MulPlain a p) can named new fits =
-    long_read draft at name keyword.MulPlain (get_or registers a []) (get_or plains p []) a p named new (can.register a fits.operands.0) (can.plain p fits.plain) (shape_fits draft.set (length (plain_inputs draft.inputs)) (parts_of draft.inputs draft.steps) (MulPlain a p) fits)
+    long_read draft at name keyword.MulPlain (get_or registers a []) (get_or plains p []) a p named new (can.register a fits.operands.0) (can.plain p fits.plain) (shape_fits draft.set (length (plain_inputs draft.inputs)) (shapes_of draft.inputs draft.steps) (MulPlain a p) fits)
 step_read draft registers plains at name (MulConst a k) can named new fits =
-    long_read draft at name keyword.MulConst (get_or registers a []) (decimal k) a k named new (can.register a fits.operands.0) (factor_read draft k fits.factor) (shape_fits draft.set (length (plain_inputs draft.inputs)) (parts_of draft.inputs draft.steps) (MulConst a k) fits)
+    long_read draft at name keyword.MulConst (get_or registers a []) (decimal k) a k named new (can.register a fits.operands.0) (factor_read draft k fits.factor) (shape_fits draft.set (length (plain_inputs draft.inputs)) (shapes_of draft.inputs draft.steps) (MulConst a k) fits)
 step_read draft registers plains at name (Mul a b) can named new fits =
-    let parts = parts_of draft.inputs draft.steps in
-    long_read draft at name keyword.Mul (get_or registers a []) (get_or registers b []) a b named new (can.register a fits.operands.0) (can.register b fits.operands.1.0) (shape_fits draft.set (length (plain_inputs draft.inputs)) parts (Mul a b) fits)
+    let shapes = shapes_of draft.inputs draft.steps in
+    long_read draft at name keyword.Mul (get_or registers a []) (get_or registers b []) a b named new (can.register a fits.operands.0) (can.register b fits.operands.1.0) (shape_fits draft.set (length (plain_inputs draft.inputs)) shapes (Mul a b) fits)
 step_read draft registers plains at name (Relin a) can named new fits =
-    let parts = parts_of draft.inputs draft.steps in
-    short_read draft at name keyword.Relin (get_or registers a []) a named new (can.register a fits.operands.0) refl (shape_fits draft.set (length (plain_inputs draft.inputs)) parts (Relin a) fits)
+    let shapes = shapes_of draft.inputs draft.steps in
+    short_read draft at name keyword.Relin (get_or registers a []) a named new (can.register a fits.operands.0) refl (shape_fits draft.set (length (plain_inputs draft.inputs)) shapes (Relin a) fits)
 step_read draft registers plains at name (Turn a k) can named new fits =
-    let parts = parts_of draft.inputs draft.steps in
-    long_read draft at name keyword.Turn (get_or registers a []) (decimal k) a k named new (can.register a fits.operands.0) (distance_read draft k fits.distance.0 fits.distance.1) (shape_fits draft.set (length (plain_inputs draft.inputs)) parts (Turn a k) fits)
+    let shapes = shapes_of draft.inputs draft.steps in
+    long_read draft at name keyword.Turn (get_or registers a []) (decimal k) a k named new (can.register a fits.operands.0) (distance_read draft k fits.distance.0 fits.distance.1) (shape_fits draft.set (length (plain_inputs draft.inputs)) shapes (Turn a k) fits)
 step_read draft registers plains at name (Swap a) can named new fits =
-    let parts = parts_of draft.inputs draft.steps in
-    short_read draft at name keyword.Swap (get_or registers a []) a named new (can.register a fits.operands.0) refl (shape_fits draft.set (length (plain_inputs draft.inputs)) parts (Swap a) fits)
+    let shapes = shapes_of draft.inputs draft.steps in
+    short_read draft at name keyword.Swap (get_or registers a []) a named new (can.register a fits.operands.0) refl (shape_fits draft.set (length (plain_inputs draft.inputs)) shapes (Swap a) fits)
 
 -- what a draft defines can be read, also where further names follow
 can_read : (draft : Draft) (more : List (List ℕ)) → AllDiffer (names_of draft.inputs draft.steps ++ more) → list_all is_name (names_of draft.inputs draft.steps ++ more) ≡ true
@@ -305,7 +303,7 @@ can_read draft more differ named =
     let registers_named : list_all is_name registers ≡ true = all_pass_kept is_name _ draft.inputs steps defined_named in
     let plains_differ : AllDiffer plains = all_left plains steps (all_differ_kept _ draft.inputs steps defined_differ) in
     let plains_named : list_all is_name plains ≡ true = all_pass_left is_name plains steps (all_pass_kept is_name _ draft.inputs steps defined_named) in
-    let count : length registers ≡ length (parts_of draft.inputs draft.steps) = by draft in
+    let count : length registers ≡ length (shapes_of draft.inputs draft.steps) = by draft in
     record {
       register = λ i below.
           let within : i < length registers = omega arith in
@@ -321,12 +319,12 @@ can_read draft more differ named =
           );
     }
   where
-    by : (draft : Draft) → length (names_of (cipher_inputs draft.inputs) draft.steps) ≡ length (parts_of draft.inputs draft.steps)
+    by : (draft : Draft) → length (names_of (cipher_inputs draft.inputs) draft.steps) ≡ length (shapes_of draft.inputs draft.steps)
     by draft =
         let both = length-append (input_names (cipher_inputs draft.inputs)) (step_names draft.steps) in
         let ciphers = length-map (cipher_inputs draft.inputs) (λ (input : Input). input.name) in
         let steps = length-map draft.steps (λ (step : Step). step.name) in
-        let parts = length-parts_of draft.inputs draft.steps in
+        let shapes = length-shapes_of draft.inputs draft.steps in
         omega arith
 
 -- ---- the lines in turn
@@ -348,13 +346,13 @@ names_split inputs before after =
     append_assoc (input_names inputs) (step_names before) (step_names after)
     ∙ ap (λ (names : List (List ℕ)). input_names inputs ++ names) (sym (map-append (λ (step : Step). step.name) before after))
 
--- the parts of the registers after a further step
-parts_more : (inputs : List Input) (steps : List Step) (step : Step) → parts_of inputs (steps ++ step ∷ []) ≡ parts_of inputs steps ++ parts_made (parts_of inputs steps) step.op ∷ []
-parts_more inputs steps step = fold-append (λ so_far step. so_far ++ parts_made so_far step.op ∷ []) (replicate (length (cipher_inputs inputs)) 2) steps (step ∷ [])
+-- the shapes of the registers after a further step
+shapes_more : (inputs : List Input) (steps : List Step) (step : Step) → shapes_of inputs (steps ++ step ∷ []) ≡ shapes_of inputs steps ++ shape_made (shapes_of inputs steps) step.op ∷ []
+shapes_more inputs steps step = fold-append (λ so_far step. so_far ++ shape_made so_far step.op ∷ []) (replicate (length (cipher_inputs inputs)) input_shape) steps (step ∷ [])
 
 -- the lines of the steps
 steps_read : (set : SetName) (inputs : List Input) (all : List Step) → AllDiffer (names_of inputs all) → list_all is_name (names_of inputs all) ≡ true
-    → (steps before : List Step) (at : ℕ) (more : List (List (List ℕ))) → before ++ steps_from at steps ≡ all → AllFit set (length (plain_inputs inputs)) (parts_of inputs before) steps
+    → (steps before : List Step) (at : ℕ) (more : List (List (List ℕ))) → before ++ steps_from at steps ≡ all → AllFit set (length (plain_inputs inputs)) (shapes_of inputs before) steps
     → after_lines (Some (record { set = set; inputs = inputs; steps = before; output = None })) (numbered_words at (map (step_words (names_of (cipher_inputs inputs) all) (input_names (plain_inputs inputs))) steps ++ more))
     ≡ after_lines (Some (record { set = set; inputs = inputs; steps = all; output = None })) (numbered_words (at + length steps) more)
 unfolding step_words
@@ -374,7 +372,7 @@ steps_read set inputs all differ named (step ∷ steps) before at more are fit =
     (is_new_name draft step.name (step_names (steps_from (at + 1) steps)) differ_so_far) fit.0 in
     line_read draft (record draft { steps = before ++ renamed ∷ [] }) at _ (map (step_words (names_of (cipher_inputs inputs) all) (input_names (plain_inputs inputs))) steps ++ more) refl read
     ∙ steps_read set inputs all differ named steps (before ++ renamed ∷ []) (at + 1) more (append_assoc before (renamed ∷ []) (steps_from (at + 1) steps) ∙ are)
-    (subst (λ (parts : List ℕ). AllFit set (length (plain_inputs inputs)) parts steps) (sym (parts_more inputs before renamed)) fit.1)
+    (subst (λ (shapes : List Shape). AllFit set (length (plain_inputs inputs)) shapes steps) (sym (shapes_more inputs before renamed)) fit.1)
     ∙ ap (λ (n : ℕ). after_lines (Some (record { set = set; inputs = inputs; steps = all; output = None })) (numbered_words n more)) (omega arith)
 
 -- the line of an input
@@ -410,7 +408,7 @@ inputs_read set all differ named (input ∷ inputs) before at more are =
 
 -- the line of the set
 set_read : (set : SetName) (at : ℕ) → set_line at (codes "set" ∷ name_of set ∷ []) ≡ Ok (record { set = set; inputs = []; steps = []; output = None })
-unfolding set_line
+unfolding set_line set_named
 set_read One16 at = refl
 set_read Toy16 at = refl
 set_read S4096 at = refl
@@ -418,7 +416,7 @@ set_read S8192 at = refl
 set_read S16384 at = refl
 
 -- the line of the output
-output_read : (draft : Draft) (at output : ℕ) → AllDiffer (names_of draft.inputs draft.steps) → list_all is_name (names_of draft.inputs draft.steps) ≡ true → output < length (parts_of draft.inputs draft.steps)
+output_read : (draft : Draft) (at output : ℕ) → AllDiffer (names_of draft.inputs draft.steps) → list_all is_name (names_of draft.inputs draft.steps) ≡ true → output < length (shapes_of draft.inputs draft.steps)
     → next_line draft at (codes "output" ∷ get_or (names_of (cipher_inputs draft.inputs) draft.steps) output [] ∷ []) ≡ Ok (record draft { output = Some output })
 unfolding next_line short_line output_line
 output_read draft at output differ named below =
@@ -488,11 +486,11 @@ after_printed script sound =
     let named : list_all is_name (names_of inputs steps) ≡ true = ap (list_all is_name) names ∙ list_all-from_AllPass is_name (names_of script.inputs script.steps) sound.names in
     let cipher_count = same_length (cipher_inputs inputs) (cipher_inputs script.inputs) ciphers in
     let plain_count = same_length (plain_inputs inputs) (plain_inputs script.inputs) (plain_names_from 2 script.inputs) in
-    let fit : AllFit script.set (length (plain_inputs inputs)) (parts_of inputs []) script.steps =
-    subst (λ (n : ℕ). AllFit script.set n (parts_of inputs []) script.steps) (sym plain_count)
-    (subst (λ (n : ℕ). AllFit script.set (length (plain_inputs script.inputs)) (replicate n 2) script.steps) (sym cipher_count) sound.fit) in
-    let below : script.output < length (parts_of inputs steps) =
-    let parts = length-parts_of inputs steps in
+    let fit : AllFit script.set (length (plain_inputs inputs)) (shapes_of inputs []) script.steps =
+    subst (λ (n : ℕ). AllFit script.set n (shapes_of inputs []) script.steps) (sym plain_count)
+    (subst (λ (n : ℕ). AllFit script.set (length (plain_inputs script.inputs)) (replicate n input_shape) script.steps) (sym cipher_count) sound.fit) in
+    let below : script.output < length (shapes_of inputs steps) =
+    let shapes = length-shapes_of inputs steps in
     let first = length-map steps (λ (step : Step). step.name) in
     let second = length-map script.steps (λ (step : Step). step.name) in
     let lengths = ap length step_same in

@@ -4,10 +4,10 @@ use Rattle.std.specs.List.{list_all}
 use Rattle.set_table.specs.Sets.{name_of}
 use Rattle.script_text.specs.declared.script.Input.{Input}
 use Rattle.script_text.specs.declared.script.Step.{Step}
-use Rattle.script_text.specs.Scripts.{Script}
+use Rattle.script_text.specs.Scripts.{Script, register_names}
 use Rattle.script_text.specs.Keywords.{keyword_text}
 use Rattle.line_text.specs.Lines.{Line, is_blank_in_line}
-use Rattle.script_text.specs.Printed.{kind_text, keyword_of, first_operand, second_words, register_names, plain_names}
+use Rattle.script_text.specs.Printed.{kind_text, keyword_of, first_operand, second_words, plain_names}
 
 unfoldable pub input_words : Input → List (List ℕ)
 input_words input = kind_text input.kind ∷ input.name ∷ []

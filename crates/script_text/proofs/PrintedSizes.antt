@@ -14,6 +14,7 @@ use Rattle.std.proofs.lemmas.List.Sums.{AllPass-from_list_all, list_all-from_All
 use Rattle.set_table.specs.declared.SetName.{SetName}
 use Rattle.set_table.specs.declared.SetName.TheVariants.{One16, Toy16, S4096, S8192, S16384}
 use Rattle.set_table.specs.Sets.{name_of}
+use Rattle.script_text.specs.Limits.{max_script_bytes}
 use Rattle.script_text.specs.declared.keyword.Keyword.{Keyword}
 use Rattle.script_text.specs.declared.keyword.Keyword.TheVariants as keyword
 use Rattle.script_text.specs.declared.script.InputKind.{InputKind}
@@ -24,9 +25,10 @@ use Rattle.script_text.specs.declared.script.Input.{Input}
 use Rattle.script_text.specs.declared.script.Step.{Step}
 use Rattle.line_text.specs.Names.{is_name, is_name_byte}
 use Rattle.script_text.specs.Keywords.{keyword_text}
-use Rattle.script_text.specs.Scripts.{Script, IsSound, Fits, AllFit, parts_made, cipher_inputs, plain_inputs, is_cipher, is_plain}
+use Rattle.script_text.specs.declared.script.Shape.{Shape}
+use Rattle.script_text.specs.Scripts.{Script, IsSound, Fits, AllFit, shape_made, cipher_inputs, plain_inputs, is_cipher, is_plain, register_names, input_shape}
 use Rattle.line_text.specs.Lines.{is_blank_in_line}
-use Rattle.script_text.specs.Printed.{printed_line, printed_input, printed_step, printed_script, kind_text, keyword_of, first_operand, second_words, register_names, plain_names}
+use Rattle.script_text.specs.Printed.{printed_line, printed_input, printed_step, printed_script, kind_text, keyword_of, first_operand, second_words, plain_names}
 use Rattle.script_text.proofs.SecondOperand.{plain_small, degree_small}
 use Rattle.script_text.proofs.PrintedScripts.{input_words, step_words, script_lines, IsPlainLine}
 use Rattle.script_text.proofs.PrintedNumbers.{both, few_digits, digits_only}
@@ -198,26 +200,26 @@ record InRange (most plains : ℕ) (op : Op) : Type 0 where
   pub second : SecondInRange most plains op
 
 -- an operation that fits some of the registers has its operands in range
-fits_in_range : (set : SetName) (most plains : ℕ) (parts : List ℕ) (op : Op) → length parts ≤ most → Fits set plains parts op → InRange most plains op
-fits_in_range set most plains parts (Add a b) short fits = record { first = omega (arith, fits.operands.0); second = omega (arith, fits.operands.1.0) }
-fits_in_range set most plains parts (Sub a b) short fits = record { first = omega (arith, fits.operands.0); second = omega (arith, fits.operands.1.0) }
-fits_in_range set most plains parts (Neg a) short fits = record { first = omega (arith, fits.operands.0); second = tt }
-fits_in_range set most plains parts (AddPlain a p) short fits = record { first = omega (arith, fits.operands.0); second = fits.plain }
-fits_in_range set most plains parts (SubPlain a p) short fits = record { first = omega (arith, fits.operands.0); second = fits.plain }
-fits_in_range set most plains parts (MulPlain a p) short fits = record { first = omega (arith, fits.operands.0); second = fits.plain }
-fits_in_range set most plains parts (MulConst a k) short fits = record { first = omega (arith, fits.operands.0); second = omega (arith, fits.factor, plain_small set) }
-fits_in_range set most plains parts (Mul a b) short fits = record { first = omega (arith, fits.operands.0); second = omega (arith, fits.operands.1.0) }
-fits_in_range set most plains parts (Relin a) short fits = record { first = omega (arith, fits.operands.0); second = tt }
-fits_in_range set most plains parts (Turn a k) short fits = record { first = omega (arith, fits.operands.0); second = omega (arith, fits.distance.1, degree_small set) }
-fits_in_range set most plains parts (Swap a) short fits = record { first = omega (arith, fits.operands.0); second = tt }
+fits_in_range : (set : SetName) (most plains : ℕ) (shapes : List Shape) (op : Op) → length shapes ≤ most → Fits set plains shapes op → InRange most plains op
+fits_in_range set most plains shapes (Add a b) short fits = record { first = omega (arith, fits.operands.0); second = omega (arith, fits.operands.1.0) }
+fits_in_range set most plains shapes (Sub a b) short fits = record { first = omega (arith, fits.operands.0); second = omega (arith, fits.operands.1.0) }
+fits_in_range set most plains shapes (Neg a) short fits = record { first = omega (arith, fits.operands.0); second = tt }
+fits_in_range set most plains shapes (AddPlain a p) short fits = record { first = omega (arith, fits.operands.0); second = fits.plain }
+fits_in_range set most plains shapes (SubPlain a p) short fits = record { first = omega (arith, fits.operands.0); second = fits.plain }
+fits_in_range set most plains shapes (MulPlain a p) short fits = record { first = omega (arith, fits.operands.0); second = fits.plain }
+fits_in_range set most plains shapes (MulConst a k) short fits = record { first = omega (arith, fits.operands.0); second = omega (arith, fits.factor, plain_small set) }
+fits_in_range set most plains shapes (Mul a b) short fits = record { first = omega (arith, fits.operands.0); second = omega (arith, fits.operands.1.0) }
+fits_in_range set most plains shapes (Relin a) short fits = record { first = omega (arith, fits.operands.0); second = tt }
+fits_in_range set most plains shapes (Turn a k) short fits = record { first = omega (arith, fits.operands.0); second = omega (arith, fits.distance.1, degree_small set) }
+fits_in_range set most plains shapes (Swap a) short fits = record { first = omega (arith, fits.operands.0); second = tt }
 
-all_in_range : (set : SetName) (most plains : ℕ) (parts : List ℕ) (steps : List Step) → length parts + length steps ≤ most → AllFit set plains parts steps → All (λ step. InRange most plains step.op) steps
-all_in_range set most plains parts [] short fit = All-nil (λ (step : Step). InRange most plains step.op)
-all_in_range set most plains parts (step ∷ steps) short fit =
-    let one = length-append parts (parts_made parts step.op ∷ []) in
+all_in_range : (set : SetName) (most plains : ℕ) (shapes : List Shape) (steps : List Step) → length shapes + length steps ≤ most → AllFit set plains shapes steps → All (λ step. InRange most plains step.op) steps
+all_in_range set most plains shapes [] short fit = All-nil (λ (step : Step). InRange most plains step.op)
+all_in_range set most plains shapes (step ∷ steps) short fit =
+    let one = length-append shapes (shape_made shapes step.op ∷ []) in
     All-cons (λ (step : Step). InRange most plains step.op) step steps
-    (fits_in_range set most plains parts step.op (omega arith) fit.0)
-    (all_in_range set most plains (parts ++ parts_made parts step.op ∷ []) steps (omega arith) fit.1)
+    (fits_in_range set most plains shapes step.op (omega arith) fit.0)
+    (all_in_range set most plains (shapes ++ shape_made shapes step.op ∷ []) steps (omega arith) fit.1)
 
 -- ---- names
 
@@ -355,10 +357,9 @@ step_lines script sound =
     let registers = register_names script in
     let plains = plain_names script in
     let count = length-register_names script in
-    let two : ℕ = 2 in
-    let twos = length-replicate (length (cipher_inputs script.inputs)) two in
+    let twos = length-replicate {A = Shape} (length (cipher_inputs script.inputs)) input_shape in
     let plain_count : length plains ≡ length (plain_inputs script.inputs) = length-map (plain_inputs script.inputs) (λ (input : Input). input.name) in
-    let ranges = all_in_range script.set (length registers) (length (plain_inputs script.inputs)) (replicate (length (cipher_inputs script.inputs)) 2) script.steps (omega (arith, count, twos)) sound.fit in
+    let ranges = all_in_range script.set (length registers) (length (plain_inputs script.inputs)) (replicate (length (cipher_inputs script.inputs)) input_shape) script.steps (omega (arith, count, twos)) sound.fit in
     All-map IsShortLine (step_words registers plains) script.steps
     (λ i d below. step_line registers plains (get_or script.steps i d) (names.steps i d below) names.registers names.plains
     (subst (λ (n : ℕ). InRange (length registers) n (get_or script.steps i d).op) (sym plain_count) (ranges i d below)))
@@ -406,7 +407,7 @@ length-script_lines script =
     let step_count = length-map script.steps (step_words (register_names script) (plain_names script)) in
     omega (arith, whole, rest, input_count, step_count)
 
-pub short_printed : (script : Script) → IsSound script → length (printed_script script) ≤ 1048576
+pub short_printed : (script : Script) → IsSound script → length (printed_script script) ≤ max_script_bytes
 short_printed script sound =
     let bytes = few_bytes (script_lines script) (short_lines script sound) in
     let count = length-script_lines script in

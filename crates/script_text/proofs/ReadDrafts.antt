@@ -1,31 +1,30 @@
 -- The lines that are read without fault are those of the draft that they give.
-use Rattle.std.proofs.Common.{◌≡◌, ◌==◌, ℕ, ◌+◌, List, [], ◌∷◌, ◌++◌, length, map, replicate, get_or, Bool, true, false, cond, ◌&&◌, Option, Some, None, Ok, codes, refl, sym, ap, ap₂, ◌∙◌, subst}
+use Rattle.std.proofs.Common.{◌≡◌, ◌==◌, ℕ, ◌+◌, List, [], ◌∷◌, ◌++◌, length, replicate, get_or, Bool, true, false, cond, ◌&&◌, Some, None, Ok, codes, refl, sym, ap, ap₂, ◌∙◌, subst}
 use Rattle.std.specs.Prelude.{is_none}
 use Rattle.std.specs.Str.{bytes_eq}
 use Rattle.std.proofs.lemmas.Bool.{and_parts}
-use Rattle.std.proofs.lemmas.List.{append-nil, append_assoc, map-append}
+use Rattle.std.proofs.lemmas.List.{append-nil, append_assoc}
 use Rattle.std.proofs.lemmas.Slice.Eq.{bytes_eq-Decides}
 use Rattle.set_table.specs.declared.SetName.{SetName}
-use Rattle.set_table.specs.Sets.{name_of}
+use Rattle.set_table.specs.Sets.{name_of, set_named}
 use Rattle.line_text.specs.Lines.{Line}
 use Rattle.line_text.specs.Names.{is_name}
 use Rattle.script_text.specs.declared.faults.ScriptPlace.TheVariants.{Syntax, Name}
 use Rattle.script_text.specs.declared.keyword.Keyword.{Keyword}
 use Rattle.script_text.specs.declared.script.InputKind.{InputKind}
 use Rattle.script_text.specs.declared.script.InputKind.TheVariants as kind
-use Rattle.script_text.specs.declared.script.Op.{Op}
 use Rattle.script_text.specs.declared.script.Input.{Input}
 use Rattle.script_text.specs.declared.script.Step.{Step}
 use Rattle.script_text.specs.Keywords.{keyword_text, second_of, operation}
-use Rattle.script_text.specs.Scripts.{cipher_inputs, plain_inputs, parts_of, AllFit}
-use Rattle.script_text.specs.Grammar.{Draft, is_new, register_named, set_named, input_line, output_line, takes_one, is_second, has_shape, with_step, short_step, long_step, short_line, keyword_after, next_line, set_line, after_line, after_lines, demand, demand_some}
-use Rattle.script_text.specs.Printed.{kind_text, keyword_of, first_operand, second_words}
+use Rattle.script_text.specs.Scripts.{cipher_inputs, plain_inputs, shapes_of, AllFit, input_shape, has_shape}
+use Rattle.script_text.specs.Grammar.{Draft, is_new, register_named, input_line, output_line, takes_one, is_second, with_step, short_step, long_step, short_line, keyword_after, next_line, set_line, after_line, after_lines, demand, demand_some}
+use Rattle.script_text.specs.Printed.{kind_text, first_operand, second_words}
 use Rattle.script_text.proofs.Inversion.{demand_ok, demand_some_ok, followed_ok}
-use Rattle.script_text.proofs.SoundLines.{DraftSound, StepKept, empty_list, short_step_kept, long_step_kept}
+use Rattle.script_text.proofs.SoundLines.{DraftSound, empty_list, short_step_kept, long_step_kept}
 use Rattle.script_text.proofs.Sound.{next_line_kept, empty_sound}
 use Rattle.script_text.proofs.PrintedScripts.{input_words, step_words}
 use Rattle.script_text.proofs.ReadWords.{register_word, second_word, no_second_word, keyword_of-operation, keyword_after_word, set_word}
-use Rattle.script_text.proofs.ReadLists.{draft_lines, registers_of, plains_of, step_line_of, input_line_of, input_added, step_added, output_added}
+use Rattle.script_text.proofs.ReadLists.{draft_lines, registers_of, plains_of, input_added, step_added, output_added}
 
 -- ---- one line
 
@@ -75,9 +74,9 @@ step_read : (draft : Draft) (at : ℕ) (name : List ℕ) (k : Keyword) (a b : �
 unfolding with_step step_words
 step_read draft at name k a b word seconds next no_output sound first_is second_is given first last =
     let step : Step = record { name = name; op = operation k a b; line = at } in
-    let shape = demand_ok (has_shape (parts_of draft.inputs draft.steps) (operation k a b)) _ (Ok (record draft { steps = draft.steps ++ step ∷ [] })) next given in
+    let shape = demand_ok (has_shape (shapes_of draft.inputs draft.steps) (operation k a b)) _ (Ok (record draft { steps = draft.steps ++ step ∷ [] })) next given in
     let same : record draft { steps = draft.steps ++ step ∷ [] } ≡ next = cc in
-    let fit : AllFit draft.set (length (plain_inputs draft.inputs)) (replicate (length (cipher_inputs draft.inputs)) 2) (draft.steps ++ step ∷ []) =
+    let fit : AllFit draft.set (length (plain_inputs draft.inputs)) (replicate (length (cipher_inputs draft.inputs)) input_shape) (draft.steps ++ step ∷ []) =
     (subst DraftSound (sym same) sound).fit in
     let known = keyword_of-operation k a b in
     let line : Keyword → List ℕ → List (List ℕ) → List Line = λ (l : Keyword) (w : List ℕ) (ws : List (List ℕ)). record { number = at; words = name ∷ codes "=" ∷ keyword_text l ∷ w ∷ ws } ∷ [] in

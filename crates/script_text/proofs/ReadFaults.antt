@@ -1,7 +1,6 @@
 -- The first fault of a text can't be mended by what follows its line.
-use Rattle.std.proofs.Common.{◌≡◌, ◌≢◌, ◌≤◌, ◌==◌, ℕ, zero, suc, ◌+◌, List, [], ◌∷◌, ◌++◌, length, map, take, Bool, true, false, not, cond, ◌&&◌, Option, Some, None, Result, Ok, Err, codes, refl, sym, ap, ◌∙◌, subst, arith}
+use Rattle.std.proofs.Common.{◌≡◌, ◌≢◌, ◌≤◌, ◌==◌, ℕ, suc, ◌+◌, List, [], ◌∷◌, ◌++◌, length, map, take, Bool, true, false, not, cond, ◌&&◌, Option, Some, None, Result, Ok, Err, codes, refl, sym, ap, ◌∙◌, subst, arith}
 use Rattle.std.specs.Prelude.{is_none}
-use Rattle.std.specs.Option.{option_map}
 use Rattle.std.specs.Str.{bytes_eq}
 use Rattle.std.proofs.lemmas.List.{map-append}
 use Rattle.line_text.specs.Lines.{Line, words_of, counted_from, counted_lines, lines_of, is_passed_over}
@@ -15,16 +14,16 @@ use Rattle.script_text.specs.declared.script.InputKind.{InputKind}
 use Rattle.script_text.specs.declared.script.InputKind.TheVariants.{Cipher, Plain}
 use Rattle.script_text.specs.declared.script.Op.{Op}
 use Rattle.script_text.specs.Keywords.{second_of}
-use Rattle.script_text.specs.Scripts.{Script, IsSound, parts_of}
+use Rattle.script_text.specs.Scripts.{Script, IsSound, shapes_of, has_shape}
 use Rattle.script_text.specs.Grammar as grammar
-use Rattle.script_text.specs.Grammar.{Draft, is_too_long, is_new, register_named, set_named, set_line, input_line, output_line, takes_one, is_second, second_value, has_shape, with_step, short_step, long_step, short_line, keyword_after, next_line, after_line, after_lines, demand, demand_some, finished, script_of}
+use Rattle.set_table.specs.Sets.{set_named}
+use Rattle.script_text.specs.Grammar.{Draft, is_too_long, is_new, register_named, set_line, input_line, output_line, takes_one, is_second, second_value, with_step, short_step, long_step, short_line, keyword_after, next_line, after_line, after_lines, demand, demand_some, finished, script_of}
 use Rattle.script_text.specs.Printed.{printed_script, renumbered}
 use Rattle.script_text.specs.Counted.{words_in, words_until, IsInLine}
 use Rattle.script_text.proofs.ReadLines.{after_lines-append}
-use Rattle.script_text.proofs.PrintedScripts.{script_lines}
 use Rattle.script_text.proofs.PrintedAgain.{printed_lines}
 use Rattle.script_text.proofs.PrintedDrafts.{after_printed}
-use Rattle.script_text.proofs.Unnumbered.{bare, bare_line, bare_place, bared_all, lines_bared}
+use Rattle.script_text.proofs.Unnumbered.{bare_line, bared_all, lines_bared}
 
 -- ---- the line of a fault
 
@@ -69,7 +68,7 @@ short_in draft at keyword name =
 
 step_in : (draft : Draft) (at : ℕ) (name : List ℕ) (op : Op) → FaultIn at (with_step draft at name op)
 unfolding with_step
-step_in draft at name op = demand_in at (has_shape (parts_of draft.inputs draft.steps) op) (Shape at) _ refl tt
+step_in draft at name op = demand_in at (has_shape (shapes_of draft.inputs draft.steps) op) (Shape at) _ refl tt
 
 short_step_in : (draft : Draft) (at : ℕ) (name : List ℕ) (keyword : Keyword) (a : List ℕ) → FaultIn at (short_step draft at name keyword a)
 unfolding short_step

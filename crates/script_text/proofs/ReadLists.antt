@@ -1,31 +1,20 @@
 -- Each line that is read adds its words, as they are printed, to those of the lines before it.
-use Rattle.std.proofs.Common.{◌≡◌, ◌<◌, ◌≤◌, ◌==◌, ℕ, ◌+◌, List, [], ◌∷◌, ◌++◌, length, map, replicate, get_or, Bool, true, false, cond, ◌&&◌, Option, Some, None, Ok, codes, refl, sym, ap, ap₂, ◌∙◌, subst, arith, append_assoc, length-append}
+use Rattle.std.proofs.Common.{◌≡◌, ◌<◌, ◌≤◌, ℕ, ◌+◌, List, [], ◌∷◌, ◌++◌, length, map, replicate, get_or, true, Option, Some, None, codes, refl, sym, ap, ap₂, ◌∙◌, arith, append_assoc, length-append}
 use Rattle.std.specs.Prelude.{is_none}
-use Rattle.std.specs.Str.{bytes_eq}
-use Rattle.std.proofs.lemmas.Bool.{and_parts}
 use Rattle.std.proofs.lemmas.List.{append-nil, map-append, length-map, length-replicate, get_or_append_left}
-use Rattle.std.proofs.lemmas.Slice.Eq.{bytes_eq-Decides}
 use Rattle.set_table.specs.declared.SetName.{SetName}
 use Rattle.set_table.specs.Sets.{name_of}
 use Rattle.line_text.specs.Lines.{Line}
-use Rattle.line_text.specs.Names.{is_name}
-use Rattle.script_text.specs.declared.faults.ScriptPlace.TheVariants.{Syntax, Name}
-use Rattle.script_text.specs.declared.keyword.Keyword.{Keyword}
-use Rattle.script_text.specs.declared.script.InputKind.{InputKind}
-use Rattle.script_text.specs.declared.script.InputKind.TheVariants as kind
 use Rattle.script_text.specs.declared.script.Op.{Op}
 use Rattle.script_text.specs.declared.script.Op.TheVariants.{Add, Sub, Neg, AddPlain, SubPlain, MulPlain, MulConst, Mul, Relin, Turn, Swap}
 use Rattle.script_text.specs.declared.script.Input.{Input}
 use Rattle.script_text.specs.declared.script.Step.{Step}
-use Rattle.script_text.specs.Keywords.{keyword_text, second_of, operation}
-use Rattle.script_text.specs.Scripts.{cipher_inputs, plain_inputs, names_of, parts_of, parts_made, AllFit, Fits}
-use Rattle.script_text.specs.Grammar.{Draft, is_new, register_named, set_named, input_line, output_line, takes_one, is_second, second_value, has_shape, with_step, short_step, long_step, short_line, keyword_after, next_line, set_line, after_line, after_lines, demand, demand_some}
-use Rattle.script_text.specs.Printed.{kind_text, keyword_of, first_operand, second_words}
-use Rattle.script_text.proofs.Inversion.{demand_ok, demand_some_ok, followed_ok}
-use Rattle.script_text.proofs.SoundLines.{DraftSound, StepKept, empty_list, short_step_kept, long_step_kept}
-use Rattle.script_text.proofs.Sound.{next_line_kept, empty_sound}
+use Rattle.script_text.specs.Keywords.{keyword_text}
+use Rattle.script_text.specs.declared.script.Shape.{Shape}
+use Rattle.script_text.specs.Scripts.{cipher_inputs, plain_inputs, names_of, shape_made, AllFit, Fits, input_shape}
+use Rattle.script_text.specs.Grammar.{Draft, set_line}
+use Rattle.script_text.specs.Printed.{keyword_of, first_operand, second_words}
 use Rattle.script_text.proofs.PrintedScripts.{input_words, step_words}
-use Rattle.script_text.proofs.ReadWords.{register_word, second_word, no_second_word, keyword_of-operation, keyword_after_word, set_word}
 
 -- ---- the lines of a draft
 
@@ -57,49 +46,49 @@ draft_lines first last draft =
 -- ---- what a further name leaves
 
 -- a register before further ones
-kept_name : (registers more : List (List ℕ)) (parts : List ℕ) (i : ℕ) → length parts ≤ length registers → i < length parts → get_or (registers ++ more) i [] ≡ get_or registers i []
-kept_name registers more parts i fewer below = get_or_append_left registers more [] i (omega arith)
+kept_name : (registers more : List (List ℕ)) (shapes : List Shape) (i : ℕ) → length shapes ≤ length registers → i < length shapes → get_or (registers ++ more) i [] ≡ get_or registers i []
+kept_name registers more shapes i fewer below = get_or_append_left registers more [] i (omega arith)
 
 -- the words of the operands
-kept_words : (set : SetName) (count : ℕ) (parts : List ℕ) (op : Op) (registers plains more : List (List ℕ)) → Fits set count parts op → length parts ≤ length registers
+kept_words : (set : SetName) (count : ℕ) (shapes : List Shape) (op : Op) (registers plains more : List (List ℕ)) → Fits set count shapes op → length shapes ≤ length registers
     → (get_or (registers ++ more) (first_operand op) [] ≡ get_or registers (first_operand op) []) × (second_words (registers ++ more) plains op ≡ second_words registers plains op)
-kept_words set count parts (Add a b) registers plains more fits fewer =
-    (kept_name registers more parts a fewer fits.operands.0, ap (λ (w : List ℕ). w ∷ []) (kept_name registers more parts b fewer fits.operands.1.0))
-kept_words set count parts (Sub a b) registers plains more fits fewer =
-    (kept_name registers more parts a fewer fits.operands.0, ap (λ (w : List ℕ). w ∷ []) (kept_name registers more parts b fewer fits.operands.1.0))
-kept_words set count parts (Neg a) registers plains more fits fewer = (kept_name registers more parts a fewer fits.operands.0, refl)
-kept_words set count parts (AddPlain a p) registers plains more fits fewer = (kept_name registers more parts a fewer fits.operands.0, refl)
-kept_words set count parts (SubPlain a p) registers plains more fits fewer = (kept_name registers more parts a fewer fits.operands.0, refl)
-kept_words set count parts (MulPlain a p) registers plains more fits fewer = (kept_name registers more parts a fewer fits.operands.0, refl)
-kept_words set count parts (MulConst a k) registers plains more fits fewer = (kept_name registers more parts a fewer fits.operands.0, refl)
-kept_words set count parts (Mul a b) registers plains more fits fewer =
-    (kept_name registers more parts a fewer fits.operands.0, ap (λ (w : List ℕ). w ∷ []) (kept_name registers more parts b fewer fits.operands.1.0))
-kept_words set count parts (Relin a) registers plains more fits fewer = (kept_name registers more parts a fewer fits.operands.0, refl)
-kept_words set count parts (Turn a k) registers plains more fits fewer = (kept_name registers more parts a fewer fits.operands.0, refl)
-kept_words set count parts (Swap a) registers plains more fits fewer = (kept_name registers more parts a fewer fits.operands.0, refl)
+kept_words set count shapes (Add a b) registers plains more fits fewer =
+    (kept_name registers more shapes a fewer fits.operands.0, ap (λ (w : List ℕ). w ∷ []) (kept_name registers more shapes b fewer fits.operands.1.0))
+kept_words set count shapes (Sub a b) registers plains more fits fewer =
+    (kept_name registers more shapes a fewer fits.operands.0, ap (λ (w : List ℕ). w ∷ []) (kept_name registers more shapes b fewer fits.operands.1.0))
+kept_words set count shapes (Neg a) registers plains more fits fewer = (kept_name registers more shapes a fewer fits.operands.0, refl)
+kept_words set count shapes (AddPlain a p) registers plains more fits fewer = (kept_name registers more shapes a fewer fits.operands.0, refl)
+kept_words set count shapes (SubPlain a p) registers plains more fits fewer = (kept_name registers more shapes a fewer fits.operands.0, refl)
+kept_words set count shapes (MulPlain a p) registers plains more fits fewer = (kept_name registers more shapes a fewer fits.operands.0, refl)
+kept_words set count shapes (MulConst a k) registers plains more fits fewer = (kept_name registers more shapes a fewer fits.operands.0, refl)
+kept_words set count shapes (Mul a b) registers plains more fits fewer =
+    (kept_name registers more shapes a fewer fits.operands.0, ap (λ (w : List ℕ). w ∷ []) (kept_name registers more shapes b fewer fits.operands.1.0))
+kept_words set count shapes (Relin a) registers plains more fits fewer = (kept_name registers more shapes a fewer fits.operands.0, refl)
+kept_words set count shapes (Turn a k) registers plains more fits fewer = (kept_name registers more shapes a fewer fits.operands.0, refl)
+kept_words set count shapes (Swap a) registers plains more fits fewer = (kept_name registers more shapes a fewer fits.operands.0, refl)
 
 -- the line of a step
-kept_line : (set : SetName) (count : ℕ) (parts : List ℕ) (step : Step) (registers plains more : List (List ℕ)) → Fits set count parts step.op → length parts ≤ length registers
+kept_line : (set : SetName) (count : ℕ) (shapes : List Shape) (step : Step) (registers plains more : List (List ℕ)) → Fits set count shapes step.op → length shapes ≤ length registers
     → step_line_of (registers ++ more) plains step ≡ step_line_of registers plains step
 unfolding step_words
-kept_line set count parts step registers plains more fits fewer =
-    let kept = kept_words set count parts step.op registers plains more fits fewer in
+kept_line set count shapes step registers plains more fits fewer =
+    let kept = kept_words set count shapes step.op registers plains more fits fewer in
     let line : List ℕ → List (List ℕ) → Line = λ (first : List ℕ) (seconds : List (List ℕ)). record { number = step.line; words = step.name ∷ codes "=" ∷ keyword_text (keyword_of step.op) ∷ first ∷ seconds } in
     ap₂ line kept.0 kept.1
 
 -- the lines of steps whose operands are registers before them
-lines_kept : (set : SetName) (count : ℕ) (steps : List Step) (parts : List ℕ) (registers plains more : List (List ℕ)) → AllFit set count parts steps → length parts + length steps ≤ length registers + 1
+lines_kept : (set : SetName) (count : ℕ) (steps : List Step) (shapes : List Shape) (registers plains more : List (List ℕ)) → AllFit set count shapes steps → length shapes + length steps ≤ length registers + 1
     → map (step_line_of (registers ++ more) plains) steps ≡ map (step_line_of registers plains) steps
-lines_kept set count [] parts registers plains more fit few = refl
-lines_kept set count (step ∷ steps) parts registers plains more fit few =
-    let one = length-append parts (parts_made parts step.op ∷ []) in
+lines_kept set count [] shapes registers plains more fit few = refl
+lines_kept set count (step ∷ steps) shapes registers plains more fit few =
+    let one = length-append shapes (shape_made shapes step.op ∷ []) in
     ap₂ (λ (line : Line) (lines : List Line). line ∷ lines)
-    (kept_line set count parts step registers plains more fit.0 (omega arith))
-    (lines_kept set count steps (parts ++ parts_made parts step.op ∷ []) registers plains more fit.1 (omega arith))
+    (kept_line set count shapes step registers plains more fit.0 (omega arith))
+    (lines_kept set count steps (shapes ++ shape_made shapes step.op ∷ []) registers plains more fit.1 (omega arith))
 
 -- ---- what a line adds
 
--- lines behind a first one, in four parts, and one more behind the third
+-- lines behind a first one, in four shapes, and one more behind the third
 joined : (first more : Line) (inputs steps : List Line) → first ∷ (inputs ++ (steps ++ more ∷ [])) ≡ (first ∷ (inputs ++ (steps ++ []))) ++ more ∷ []
 joined first more inputs steps =
     ap (λ (lines : List Line). first ∷ lines)
@@ -133,7 +122,7 @@ registers_more inputs steps step =
 
 -- a further step
 pub step_added : (draft : Draft) (step : Step) (first last at : ℕ) → is_none draft.output ≡ true
-    → AllFit draft.set (length (plain_inputs draft.inputs)) (replicate (length (cipher_inputs draft.inputs)) 2) (draft.steps ++ step ∷ [])
+    → AllFit draft.set (length (plain_inputs draft.inputs)) (replicate (length (cipher_inputs draft.inputs)) input_shape) (draft.steps ++ step ∷ [])
     → draft_lines first at (record draft { steps = draft.steps ++ step ∷ [] }) ≡ draft_lines first last draft ++ step_line_of (registers_of draft) (plains_of draft.inputs) step ∷ []
 unfolding draft_lines
 step_added draft step first last at no_output fit = by draft.output (none_of draft.output no_output)
@@ -148,13 +137,13 @@ step_added draft step first last at no_output fit = by draft.output (none_of dra
         ≡ map (step_line_of (names_of (cipher_inputs draft.inputs) draft.steps) (plains_of draft.inputs)) draft.steps ++ step_line_of (names_of (cipher_inputs draft.inputs) draft.steps) (plains_of draft.inputs) step ∷ []
     same =
         let before = names_of (cipher_inputs draft.inputs) draft.steps in
-        let parts = length-replicate {A = ℕ} (length (cipher_inputs draft.inputs)) 2 in
+        let shapes = length-replicate {A = Shape} (length (cipher_inputs draft.inputs)) input_shape in
         let all = length-append (map (λ (i : Input). i.name) (cipher_inputs draft.inputs)) (map (λ (s : Step). s.name) draft.steps) in
         let ciphers = length-map (cipher_inputs draft.inputs) (λ (i : Input). i.name) in
         let steps = length-map draft.steps (λ (s : Step). s.name) in
         let one = length-append draft.steps (step ∷ []) in
         ap (λ (names : List (List ℕ)). map (step_line_of names (plains_of draft.inputs)) (draft.steps ++ step ∷ [])) (registers_more draft.inputs draft.steps step)
-        ∙ lines_kept draft.set (length (plain_inputs draft.inputs)) (draft.steps ++ step ∷ []) (replicate (length (cipher_inputs draft.inputs)) 2) before (plains_of draft.inputs) (step.name ∷ []) fit (omega arith)
+        ∙ lines_kept draft.set (length (plain_inputs draft.inputs)) (draft.steps ++ step ∷ []) (replicate (length (cipher_inputs draft.inputs)) input_shape) before (plains_of draft.inputs) (step.name ∷ []) fit (omega arith)
         ∙ map-append (step_line_of before (plains_of draft.inputs)) draft.steps (step ∷ [])
 
     by : (output : Option ℕ) → output ≡ None

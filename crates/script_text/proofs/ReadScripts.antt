@@ -6,15 +6,15 @@ use Rattle.line_text.specs.Lines.{Line, counted_lines, lines_of}
 use Rattle.script_text.specs.declared.faults.ScriptPlace.TheVariants.{TooLong}
 use Rattle.script_text.specs.declared.script.Input.{Input}
 use Rattle.script_text.specs.declared.script.Step.{Step}
-use Rattle.script_text.specs.Scripts.{Script, IsSound}
-use Rattle.script_text.specs.Grammar.{Draft, after_lines, is_too_long, demand, followed, finished, script_of}
-use Rattle.script_text.specs.Printed.{printed_script, register_names, plain_names}
+use Rattle.script_text.specs.Scripts.{Script, IsSound, register_names}
+use Rattle.script_text.specs.Grammar.{Draft, after_lines, is_too_long, followed, finished, script_of}
+use Rattle.script_text.specs.Printed.{printed_script, plain_names}
 use Rattle.script_text.specs.Counted.{words_in, numbers_in, kept_lines}
 use Rattle.script_text.proofs.Inversion.{demand_ok, demand_some_ok, followed_ok}
 use Rattle.script_text.proofs.Sound.{draft_sound}
 use Rattle.script_text.proofs.PrintedScripts.{input_words, step_words, script_lines, numbered_words}
 use Rattle.script_text.proofs.PrintedAgain.{printed_lines}
-use Rattle.script_text.proofs.ReadLists.{draft_lines, registers_of, plains_of, step_line_of, input_line_of, output_lines_of}
+use Rattle.script_text.proofs.ReadLists.{draft_lines, step_line_of, input_line_of}
 use Rattle.script_text.proofs.ReadDrafts.{all_read}
 
 -- ---- the words and the numbers of lines

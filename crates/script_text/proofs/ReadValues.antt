@@ -6,6 +6,7 @@ use Rattle.std.proofs.lemmas.Bool.Decides.{nat_tests}
 use Rattle.std.proofs.lemmas.List.{length-replicate}
 use Rattle.std.proofs.lemmas.List.Sums.{fails_before_first}
 use Rattle.std.proofs.lemmas.List.Elements.{All-append, All-replicate}
+use Rattle.script_text.specs.Limits.{max_values_bytes}
 use Rattle.script_text.specs.Reading.{values_of, values_unless, numbers, earlier, first_stray, first_surplus}
 use Rattle.script_text.specs.declared.faults.ValuePlace.TheVariants.{BadText, TooLarge, TooMany, TooLong}
 use Rattle.script_text.proofs.Saturated.{none_first}
@@ -23,7 +24,7 @@ tests_passed true bad many large padded values is = absurd (cc)
 passed : (text : List ℕ) (n t : ℕ) (values : List ℕ) → values_of text n t ≡ Ok values
     → (length (numbers text) ≤ n) × (position (λ value. nat_le t value) (numbers text) ≡ None) × (values ≡ numbers text ++ replicate (n - length (numbers text)) 0)
 passed text n t values is =
-    let p = tests_passed (nat_lt 4194304 (length text)) (earlier (first_stray text) (first_surplus text)) (nat_lt n (length (numbers text))) (position (λ value. nat_le t value) (numbers text)) _ values is in
+    let p = tests_passed (nat_lt max_values_bytes (length text)) (earlier (first_stray text) (first_surplus text)) (nat_lt n (length (numbers text))) (position (λ value. nat_le t value) (numbers text)) _ values is in
     let few : length (numbers text) ≤ n = grind (arith, nat_tests, p.0) in
     (few, p.1, p.2)
 

@@ -1,12 +1,12 @@
 -- A text with the words of a sound script's print is read as that script, but for its lines.
-use Rattle.std.proofs.Common.{◌≡◌, ◌≤◌, ◌==◌, ℕ, ◌+◌, List, [], ◌∷◌, length, map, Bool, false, true, not, cond, ◌||◌, Option, Some, None, Result, Ok, Err, refl, sym, ap, ap₂, ◌∙◌, subst, arith}
+use Rattle.std.proofs.Common.{◌≡◌, ◌≤◌, ℕ, ◌+◌, List, [], ◌∷◌, length, map, Bool, false, not, cond, Option, Some, None, Result, Ok, Err, refl, sym, ap, ap₂, ◌∙◌, subst}
 use Rattle.std.specs.List.{count_by}
-use Rattle.std.specs.Option.{option_map}
 use Rattle.std.proofs.lemmas.Bool.{le-ltb}
 use Rattle.std.proofs.lemmas.List.{length-map}
 use Rattle.std.proofs.lemmas.List.Sums.{sum_by-cons}
 use Rattle.set_table.specs.declared.SetName.{SetName}
 use Rattle.line_text.specs.Lines.{Line, counted_lines, lines_of}
+use Rattle.script_text.specs.Limits.{max_script_bytes, max_inputs, max_steps}
 use Rattle.script_text.specs.declared.faults.ScriptPlace.{ScriptPlace}
 use Rattle.script_text.specs.declared.faults.ScriptPlace.TheVariants.{TooLong}
 use Rattle.script_text.specs.declared.script.Input.{Input}
@@ -33,14 +33,14 @@ count_words test (line ∷ lines) =
 same_count : (test : List (List ℕ) → Bool) (text other : List ℕ) → words_in text ≡ words_in other → count_by (λ line. test line.words) (counted_lines other) ≡ count_by (λ line. test line.words) (counted_lines text)
 same_count test text other same = count_words test (counted_lines other) ∙ ap (count_by test) (sym same) ∙ sym (count_words test (counted_lines text))
 
-short_enough : (text : List ℕ) (script : Script) → IsSound script → length text ≤ 1048576 → words_in text ≡ words_in (printed_script script) → is_too_long text ≡ false
+short_enough : (text : List ℕ) (script : Script) → IsSound script → length text ≤ max_script_bytes → words_in text ≡ words_in (printed_script script) → is_too_long text ≡ false
 short_enough text script sound short same =
     let lines = printed_lines script sound in
-    let inputs = subst (λ (l : List Line). count_by (λ line. is_input_line line.words) l ≤ 64) (sym lines) (few_inputs script sound) in
-    let steps = subst (λ (l : List Line). count_by (λ line. is_step_line line.words) l ≤ 4096) (sym lines) (few_steps script sound) in
-    none_holds _ _ _ (le-ltb 1048576 (length text) short)
-    (le-ltb 64 _ (subst (λ (n : ℕ). n ≤ 64) (same_count is_input_line text (printed_script script) same) inputs))
-    (le-ltb 4096 _ (subst (λ (n : ℕ). n ≤ 4096) (same_count is_step_line text (printed_script script) same) steps))
+    let inputs = subst (λ (l : List Line). count_by (λ line. is_input_line line.words) l ≤ max_inputs) (sym lines) (few_inputs script sound) in
+    let steps = subst (λ (l : List Line). count_by (λ line. is_step_line line.words) l ≤ max_steps) (sym lines) (few_steps script sound) in
+    none_holds _ _ _ (le-ltb max_script_bytes (length text) short)
+    (le-ltb max_inputs _ (subst (λ (n : ℕ). n ≤ max_inputs) (same_count is_input_line text (printed_script script) same) inputs))
+    (le-ltb max_steps _ (subst (λ (n : ℕ). n ≤ max_steps) (same_count is_step_line text (printed_script script) same) steps))
 
 -- ---- inputs and steps that differ in their lines alone
 
@@ -75,7 +75,7 @@ same_script draft script same =
 
 -- ---- the text as a whole
 
-pub read_by_words : (text : List ℕ) (script : Script) → IsSound script → length text ≤ 1048576 → words_in text ≡ words_in (printed_script script)
+pub read_by_words : (text : List ℕ) (script : Script) → IsSound script → length text ≤ max_script_bytes → words_in text ≡ words_in (printed_script script)
     → (read : Script) × (script_of text ≡ Ok read) × (renumbered read ≡ renumbered script)
 read_by_words text script sound short same =
     let lines : map bare_line (counted_lines text) ≡ map bare_line (counted_lines (printed_script script)) =

@@ -1,6 +1,5 @@
 -- A word that was understood is the one that is printed for what it means.
-use Rattle.std.proofs.Common.{◌≡◌, ◌<◌, ◌≤◌, ◌==◌, ◌/◌, ℕ, ◌+◌, List, [], ◌∷◌, length, map, get_or, Bool, true, false, not, cond, ◌&&◌, nat_lt, nat_le, Option, Some, None, decimal, codes, slice_index, refl, sym, ap, ◌∙◌, arith}
-use Rattle.std.specs.Prelude.{slice_index_or}
+use Rattle.std.proofs.Common.{◌≡◌, ◌<◌, ◌==◌, ◌/◌, ℕ, List, [], ◌∷◌, length, map, get_or, Bool, true, false, not, cond, ◌&&◌, nat_lt, nat_le, Some, None, decimal, codes, slice_index, refl, sym, ap, ◌∙◌, arith}
 use Rattle.std.specs.List.{list_all, find}
 use Rattle.std.specs.Str.{bytes_eq}
 use Rattle.std.specs.Char.{is_ascii_digit}
@@ -10,16 +9,14 @@ use Rattle.std.proofs.lemmas.Fmt.{decimal-digits_value}
 use Rattle.std.proofs.lemmas.List.Quantifiers.{position-Some}
 use Rattle.std.proofs.lemmas.Slice.Eq.{bytes_eq-Decides}
 use Rattle.set_table.specs.declared.SetName.{SetName}
-use Rattle.set_table.specs.declared.SetName.TheVariants.{One16, Toy16, S4096, S8192, S16384}
-use Rattle.set_table.specs.Sets.{name_of, degree_of, plain_of}
+use Rattle.set_table.specs.Sets.{sets, name_of, degree_of, plain_of, set_named}
 use Rattle.line_text.specs.Names.{written_number, is_number, is_number_in}
 use Rattle.script_text.specs.declared.keyword.Keyword.{Keyword}
 use Rattle.script_text.specs.declared.keyword.Keyword.TheVariants as keyword
 use Rattle.script_text.specs.declared.script.Input.{Input}
-use Rattle.script_text.specs.declared.script.Step.{Step}
 use Rattle.script_text.specs.Keywords.{keyword_text, keyword_named, keywords, second_of, operation}
 use Rattle.script_text.specs.Scripts.{cipher_inputs, plain_inputs, names_of}
-use Rattle.script_text.specs.Grammar.{Draft, register_named, plain_named, set_named, takes_one, is_second, second_value, keyword_after}
+use Rattle.script_text.specs.Grammar.{Draft, register_named, plain_named, takes_one, is_second, second_value, keyword_after}
 use Rattle.script_text.specs.Printed.{keyword_of, first_operand, second_words}
 use Rattle.script_text.proofs.PrintedNumbers.{numerals}
 use Rattle.script_text.proofs.SecondOperand.{plain_small, degree_small}
@@ -129,4 +126,5 @@ keyword_after_word equals word k found = by (bytes_eq equals (codes "=")) refl f
 
 -- the name of a set has one spelling
 pub set_word : (word : List ℕ) (set : SetName) → set_named word ≡ Some set → name_of set ≡ word
-set_word word set found = (bytes_eq-Decides (name_of set) word).0 (found_passes (λ (other : SetName). bytes_eq (name_of other) word) (One16 ∷ Toy16 ∷ S4096 ∷ S8192 ∷ S16384 ∷ []) set found)
+unfolding set_named
+set_word word set found = sym ((bytes_eq-Decides word (name_of set)).0 (found_passes (λ (other : SetName). bytes_eq word (name_of other)) sets set found))

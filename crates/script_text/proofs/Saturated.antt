@@ -4,6 +4,7 @@ use Rattle.std.proofs.lemmas.Bool.Decides.{nat_tests}
 use Rattle.std.proofs.lemmas.List.{length-map}
 use Rattle.std.specs.List.{position_or_len}
 use Rattle.std.specs.Option.{option_map}
+use Rattle.script_text.specs.Limits.{max_values_bytes}
 use Rattle.script_text.specs.Reading.{values_of, values_unless, numbers, earlier, first_stray, first_surplus}
 use Rattle.script_text.specs.declared.faults.ValuePlace.TheVariants.{TooLarge}
 
@@ -43,9 +44,9 @@ pub map-saturated : (most t : ℕ) (values : List ℕ) → t ≤ most → positi
 map-saturated most t values fits none = uncut most t values fits (none_first _ _ none)
 
 -- a text with no other fault: its values decide
-pub values_decide : (text : List ℕ) (n t : ℕ) → length text ≤ 4194304 → earlier (first_stray text) (first_surplus text) ≡ None → length (numbers text) ≤ n
+pub values_decide : (text : List ℕ) (n t : ℕ) → length text ≤ max_values_bytes → earlier (first_stray text) (first_surplus text) ≡ None → length (numbers text) ≤ n
     → values_of text n t ≡ values_unless (option_map TooLarge (position (λ value. nat_le t value) (numbers text))) (numbers text ++ replicate (n - length (numbers text)) 0)
 values_decide text n t short good few =
-    let is_short : nat_lt 4194304 (length text) ≡ false = grind (arith, nat_tests) in
+    let is_short : nat_lt max_values_bytes (length text) ≡ false = grind (arith, nat_tests) in
     let is_few : nat_lt n (length (numbers text)) ≡ false = grind (arith, nat_tests) in
     cc

@@ -8,6 +8,7 @@ use Rattle.std.proofs.lemmas.Bool.Decides.{nat_tests}
 use Rattle.std.proofs.lemmas.List.Sums.{length-filter}
 use Rattle.std.proofs.lemmas.Slice.Eq.{bytes_eq-Decides}
 use Rattle.set_table.specs.declared.SetName.{SetName}
+use Rattle.script_text.specs.Limits.{max_script_bytes, max_inputs, max_steps}
 use Rattle.script_text.specs.declared.faults.ScriptPlace.TheVariants.{Syntax, Name}
 use Rattle.script_text.specs.declared.keyword.Keyword.{Keyword}
 use Rattle.script_text.specs.declared.script.InputKind.{InputKind}
@@ -17,7 +18,8 @@ use Rattle.line_text.specs.Names.{is_name}
 use Rattle.script_text.specs.Keywords.{keyword_named}
 use Rattle.script_text.specs.Scripts.{IsSound, cipher_inputs}
 use Rattle.line_text.specs.Lines.{Line, counted_lines}
-use Rattle.script_text.specs.Grammar.{Draft, is_new, register_named, set_named, input_line, output_line, short_line, keyword_after, next_line, set_line, after_line, after_lines, is_input_line, is_step_line, is_too_long, demand, demand_some}
+use Rattle.set_table.specs.Sets.{set_named}
+use Rattle.script_text.specs.Grammar.{Draft, is_new, register_named, input_line, output_line, short_line, keyword_after, next_line, set_line, after_line, after_lines, is_input_line, is_step_line, is_too_long, demand, demand_some}
 use Rattle.script_text.proofs.Inversion.{demand_ok, demand_some_ok, followed_ok}
 use Rattle.script_text.proofs.SoundLines.{DraftSound, Kept, StepKept, empty_list, input_sound, register_below, short_step_kept, long_step_kept}
 
@@ -180,28 +182,28 @@ all_kept (line ∷ lines) last given =
     (rest.2.sound, omega (arith, rest.2.inputs), omega (arith, rest.2.steps))
 
 few : (text : List ℕ) → is_too_long text ≡ false
-    → (length (filter (λ line. is_input_line line.words) (counted_lines text)) ≤ 64) × (length (filter (λ line. is_step_line line.words) (counted_lines text)) ≤ 4096)
+    → (length (filter (λ line. is_input_line line.words) (counted_lines text)) ≤ max_inputs) × (length (filter (λ line. is_step_line line.words) (counted_lines text)) ≤ max_steps)
 few text not_long =
     let inputs = length-filter (λ line. is_input_line line.words) (counted_lines text) in
     let steps = length-filter (λ line. is_step_line line.words) (counted_lines text) in
-    by (nat_lt 1048576 (length text)) (nat_lt 64 (count_by (λ line. is_input_line line.words) (counted_lines text))) (nat_lt 4096 (count_by (λ line. is_step_line line.words) (counted_lines text))) refl refl not_long inputs steps
+    by (nat_lt max_script_bytes (length text)) (nat_lt max_inputs (count_by (λ line. is_input_line line.words) (counted_lines text))) (nat_lt max_steps (count_by (λ line. is_step_line line.words) (counted_lines text))) refl refl not_long inputs steps
   where
-    by : (long many more : Bool) → nat_lt 64 (count_by (λ line. is_input_line line.words) (counted_lines text)) ≡ many → nat_lt 4096 (count_by (λ line. is_step_line line.words) (counted_lines text)) ≡ more
+    by : (long many more : Bool) → nat_lt max_inputs (count_by (λ line. is_input_line line.words) (counted_lines text)) ≡ many → nat_lt max_steps (count_by (λ line. is_step_line line.words) (counted_lines text)) ≡ more
         → long || many || more ≡ false
         → length (filter (λ line. is_input_line line.words) (counted_lines text)) ≡ count_by (λ line. is_input_line line.words) (counted_lines text)
         → length (filter (λ line. is_step_line line.words) (counted_lines text)) ≡ count_by (λ line. is_step_line line.words) (counted_lines text)
-        → (length (filter (λ line. is_input_line line.words) (counted_lines text)) ≤ 64) × (length (filter (λ line. is_step_line line.words) (counted_lines text)) ≤ 4096)
+        → (length (filter (λ line. is_input_line line.words) (counted_lines text)) ≤ max_inputs) × (length (filter (λ line. is_step_line line.words) (counted_lines text)) ≤ max_steps)
     by true many more is_many is_more none inputs steps = absurd cc
     by false true more is_many is_more none inputs steps = absurd cc
     by false false true is_many is_more none inputs steps = absurd cc
     by false false false is_many is_more none inputs steps = (grind (arith, nat_tests), grind (arith, nat_tests))
 
-pub bytes_few : (text : List ℕ) → is_too_long text ≡ false → length text ≤ 1048576
-bytes_few text not_long = by (nat_lt 1048576 (length text)) refl not_long
+pub bytes_few : (text : List ℕ) → is_too_long text ≡ false → length text ≤ max_script_bytes
+bytes_few text not_long = by (nat_lt max_script_bytes (length text)) refl not_long
   where
-    by : (long : Bool) → nat_lt 1048576 (length text) ≡ long
-        → long || nat_lt 64 (count_by (λ line. is_input_line line.words) (counted_lines text)) || nat_lt 4096 (count_by (λ line. is_step_line line.words) (counted_lines text)) ≡ false
-        → length text ≤ 1048576
+    by : (long : Bool) → nat_lt max_script_bytes (length text) ≡ long
+        → long || nat_lt max_inputs (count_by (λ line. is_input_line line.words) (counted_lines text)) || nat_lt max_steps (count_by (λ line. is_step_line line.words) (counted_lines text)) ≡ false
+        → length text ≤ max_script_bytes
     by true is none = absurd cc
     by false is none = grind (arith, nat_tests)
 

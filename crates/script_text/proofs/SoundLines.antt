@@ -17,10 +17,11 @@ use Rattle.script_text.specs.declared.script.Input.{Input}
 use Rattle.script_text.specs.declared.script.Step.{Step}
 use Rattle.line_text.specs.Names.{written_number, is_name, is_number, is_number_in}
 use Rattle.script_text.specs.Keywords.{second_of, operation}
-use Rattle.script_text.specs.Scripts.{cipher_inputs, plain_inputs, names_of, parts_of, parts_made, registers, AllFit, Fits}
-use Rattle.script_text.specs.Grammar.{Draft, is_new, register_named, plain_named, is_second, second_value, takes_one, has_shape, with_step, short_step, long_step, is_input_line, is_step_line}
+use Rattle.script_text.specs.declared.script.Shape.{Shape}
+use Rattle.script_text.specs.Scripts.{cipher_inputs, plain_inputs, names_of, shapes_of, shape_made, registers, AllFit, Fits, input_shape, has_shape}
+use Rattle.script_text.specs.Grammar.{Draft, is_new, register_named, plain_named, is_second, second_value, takes_one, with_step, short_step, long_step, is_input_line, is_step_line}
 use Rattle.script_text.proofs.Inversion.{demand_ok, demand_some_ok}
-use Rattle.script_text.proofs.Registers.{length-parts_of}
+use Rattle.script_text.proofs.Registers.{length-shapes_of}
 use Rattle.script_text.proofs.Fitting.{SecondFits, operation_fits}
 use Rattle.script_text.proofs.NewNames.{new_name}
 
@@ -28,7 +29,7 @@ use Rattle.script_text.proofs.NewNames.{new_name}
 pub record DraftSound (draft : Draft) : Type 0 where
   pub names : All (λ name. IsTrue (is_name name)) (names_of draft.inputs draft.steps)
   pub distinct : AllPairs (λ name later. name ≢ later) (names_of draft.inputs draft.steps)
-  pub fit : AllFit draft.set (length (plain_inputs draft.inputs)) (replicate (length (cipher_inputs draft.inputs)) 2) draft.steps
+  pub fit : AllFit draft.set (length (plain_inputs draft.inputs)) (replicate (length (cipher_inputs draft.inputs)) input_shape) draft.steps
   pub output : IfSome draft.output (λ output. output < length (cipher_inputs draft.inputs) + length draft.steps)
 
 -- what a line leaves: a sound draft with at most one more input, at a line that counts as one, and likewise for steps
@@ -37,10 +38,10 @@ pub record Kept (draft next : Draft) (words : List (List ℕ)) : Type 0 where
   pub inputs : length next.inputs ≤ length draft.inputs + cond (is_input_line words) 1 0
   pub steps : length next.steps ≤ length draft.steps + cond (is_step_line words) 1 0
 
-AllFit-push : (set : SetName) (plains : ℕ) (parts : List ℕ) (steps : List Step) (step : Step) → AllFit set plains parts steps → Fits set plains (registers parts_made parts steps) step.op
-    → AllFit set plains parts (steps ++ step ∷ [])
-AllFit-push set plains parts [] step all fits = (fits, tt)
-AllFit-push set plains parts (first ∷ steps) step all fits = (all.0, AllFit-push set plains (parts ++ parts_made parts first.op ∷ []) steps step all.1 fits)
+AllFit-push : (set : SetName) (plains : ℕ) (shapes : List Shape) (steps : List Step) (step : Step) → AllFit set plains shapes steps → Fits set plains (registers shape_made shapes steps) step.op
+    → AllFit set plains shapes (steps ++ step ∷ [])
+AllFit-push set plains shapes [] step all fits = (fits, tt)
+AllFit-push set plains shapes (first ∷ steps) step all fits = (all.0, AllFit-push set plains (shapes ++ shape_made shapes first.op ∷ []) steps step all.1 fits)
 
 pub none_some : {A : Type 0} (o : Option A) (P : A → Type 0) → is_none o ≡ true → IfSome o P
 none_some None P none = tt
@@ -73,20 +74,20 @@ pub input_sound : (draft : Draft) (input : Input) → draft.steps ≡ [] → is_
 input_sound draft input no_steps no_output sound is new = record {
   names = all_names (names_of draft.inputs draft.steps) _ input.name named sound.names is;
   distinct = all_distinct (names_of draft.inputs draft.steps) _ input.name named sound.distinct (new_name draft input.name new);
-  fit = subst (AllFit draft.set (length (plain_inputs (draft.inputs ++ input ∷ []))) (replicate (length (cipher_inputs (draft.inputs ++ input ∷ []))) 2)) (sym no_steps) tt;
+  fit = subst (AllFit draft.set (length (plain_inputs (draft.inputs ++ input ∷ []))) (replicate (length (cipher_inputs (draft.inputs ++ input ∷ []))) input_shape)) (sym no_steps) tt;
   output = none_some draft.output _ no_output;
 }
   where
     named : names_of (draft.inputs ++ input ∷ []) draft.steps ≡ names_of draft.inputs draft.steps ++ input.name ∷ []
     named = rw no_steps (names_input draft.inputs input)
 
-step_sound : (draft : Draft) (step : Step) → is_none draft.output ≡ true → DraftSound draft → is_name step.name ≡ true → is_new draft step.name ≡ true
-    → Fits draft.set (length (plain_inputs draft.inputs)) (parts_of draft.inputs draft.steps) step.op
+pub step_sound : (draft : Draft) (step : Step) → is_none draft.output ≡ true → DraftSound draft → is_name step.name ≡ true → is_new draft step.name ≡ true
+    → Fits draft.set (length (plain_inputs draft.inputs)) (shapes_of draft.inputs draft.steps) step.op
     → DraftSound (record draft { steps = draft.steps ++ step ∷ [] })
 step_sound draft step no_output sound is new fits = record {
   names = all_names (names_of draft.inputs draft.steps) _ step.name (names_step draft.inputs draft.steps step) sound.names is;
   distinct = all_distinct (names_of draft.inputs draft.steps) _ step.name (names_step draft.inputs draft.steps step) sound.distinct (new_name draft step.name new);
-  fit = AllFit-push draft.set (length (plain_inputs draft.inputs)) (replicate (length (cipher_inputs draft.inputs)) 2) draft.steps step sound.fit fits;
+  fit = AllFit-push draft.set (length (plain_inputs draft.inputs)) (replicate (length (cipher_inputs draft.inputs)) input_shape) draft.steps step sound.fit fits;
   output = none_some draft.output _ no_output;
 }
 
@@ -100,10 +101,10 @@ register_below draft word register found =
     let steps = length-map draft.steps (λ (s : Step). s.name) in
     omega arith
 
-register_fits : (draft : Draft) (word : List ℕ) (register : ℕ) → register_named draft word ≡ Some register → register < length (parts_of draft.inputs draft.steps)
+register_fits : (draft : Draft) (word : List ℕ) (register : ℕ) → register_named draft word ≡ Some register → register < length (shapes_of draft.inputs draft.steps)
 register_fits draft word register found =
     let below = register_below draft word register found in
-    let parts = length-parts_of draft.inputs draft.steps in
+    let shapes = length-shapes_of draft.inputs draft.steps in
     omega arith
 
 plain_fits : (draft : Draft) (word : List ℕ) (p : ℕ) → plain_named draft word ≡ Some p → p < length (plain_inputs draft.inputs)
@@ -121,7 +122,7 @@ number_within low end word number is same =
     (grind (arith, nat_tests), grind (arith, nat_tests))
 
 second_fits : (draft : Draft) (second : Second) (word : List ℕ) (b : ℕ) → is_second draft.set second word ≡ true → second_value draft second word ≡ Some b
-    → SecondFits draft.set (length (plain_inputs draft.inputs)) (parts_of draft.inputs draft.steps) second b
+    → SecondFits draft.set (length (plain_inputs draft.inputs)) (shapes_of draft.inputs draft.steps) second b
 unfolding is_second second_value
 second_fits draft Nothing word b is found = tt
 second_fits draft Register word b is found = register_fits draft word b found
@@ -131,12 +132,12 @@ second_fits draft Distance word b is found =
     let within = number_within 1 (degree_of draft.set / 2) word b is found in
     (omega (arith, within.0), within.1)
 
-no_second : (set : SetName) (plains : ℕ) (parts : List ℕ) (second : Second) (b : ℕ) → takes_one second ≡ true → SecondFits set plains parts second b
-no_second set plains parts Nothing b is = tt
-no_second set plains parts Register b is = absurd cc
-no_second set plains parts Plain b is = absurd cc
-no_second set plains parts Factor b is = absurd cc
-no_second set plains parts Distance b is = absurd cc
+no_second : (set : SetName) (plains : ℕ) (shapes : List Shape) (second : Second) (b : ℕ) → takes_one second ≡ true → SecondFits set plains shapes second b
+no_second set plains shapes Nothing b is = tt
+no_second set plains shapes Register b is = absurd cc
+no_second set plains shapes Plain b is = absurd cc
+no_second set plains shapes Factor b is = absurd cc
+no_second set plains shapes Distance b is = absurd cc
 
 -- what a step's line leaves
 pub record StepKept (draft next : Draft) : Type 0 where
@@ -145,14 +146,14 @@ pub record StepKept (draft next : Draft) : Type 0 where
   pub steps : length next.steps ≡ length draft.steps + 1
 
 with_step_kept : (draft : Draft) (at : ℕ) (name : List ℕ) (k : Keyword) (a b : ℕ) (next : Draft) → is_none draft.output ≡ true → DraftSound draft → is_name name ≡ true → is_new draft name ≡ true
-    → a < length (parts_of draft.inputs draft.steps) → SecondFits draft.set (length (plain_inputs draft.inputs)) (parts_of draft.inputs draft.steps) (second_of k) b
+    → a < length (shapes_of draft.inputs draft.steps) → SecondFits draft.set (length (plain_inputs draft.inputs)) (shapes_of draft.inputs draft.steps) (second_of k) b
     → with_step draft at name (operation k a b) ≡ Ok next → StepKept draft next
 unfolding with_step
 with_step_kept draft at name k a b next no_output sound is new first second given =
     let step : Step = record { name = name; op = operation k a b; line = at } in
-    let shape = demand_ok (has_shape (parts_of draft.inputs draft.steps) (operation k a b)) _ (Ok (record draft { steps = draft.steps ++ step ∷ [] })) next given in
+    let shape = demand_ok (has_shape (shapes_of draft.inputs draft.steps) (operation k a b)) _ (Ok (record draft { steps = draft.steps ++ step ∷ [] })) next given in
     let same : record draft { steps = draft.steps ++ step ∷ [] } ≡ next = cc in
-    let fits = operation_fits draft.set (length (plain_inputs draft.inputs)) (parts_of draft.inputs draft.steps) k a b first second shape.0 in
+    let fits = operation_fits draft.set (length (plain_inputs draft.inputs)) (shapes_of draft.inputs draft.steps) k a b first second shape.0 in
     subst (StepKept draft) same (record {
       sound = step_sound draft step no_output sound is new fits;
       inputs = refl;
@@ -169,7 +170,7 @@ short_step_kept draft at name k a next no_output sound given =
     let new = demand_ok _ _ _ _ form.1 in
     let first = demand_some_ok _ _ _ _ new.1 in
     with_step_kept draft at name k first.0 0 next no_output sound named.0 new.0 (register_fits draft a first.0 first.1)
-    (no_second draft.set (length (plain_inputs draft.inputs)) (parts_of draft.inputs draft.steps) (second_of k) 0 words.1) first.2
+    (no_second draft.set (length (plain_inputs draft.inputs)) (shapes_of draft.inputs draft.steps) (second_of k) 0 words.1) first.2
 
 pub long_step_kept : (draft : Draft) (at : ℕ) (name : List ℕ) (k : Keyword) (a b : List ℕ) (next : Draft) → is_none draft.output ≡ true → DraftSound draft
     → long_step draft at name k a b ≡ Ok next → StepKept draft next

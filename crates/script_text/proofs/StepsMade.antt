@@ -9,7 +9,8 @@ use Rattle.set_table.specs.declared.SetName.TheVariants.{One16, Toy16, S4096, S8
 use Rattle.set_table.specs.Sets.{degree_of, plain_of}
 use Rattle.script_text.specs.declared.script.Op.{Op}
 use Rattle.script_text.specs.declared.script.Step.{Step}
-use Rattle.script_text.specs.Scripts.{Script, IsSound, Fits, AllFit, registers, parts_made, cipher_inputs, plain_inputs, is_cipher, is_plain}
+use Rattle.script_text.specs.declared.script.Shape.{Shape}
+use Rattle.script_text.specs.Scripts.{Script, IsSound, Fits, AllFit, registers, shape_made, cipher_inputs, plain_inputs, is_cipher, is_plain, input_shape}
 use Rattle.script_text.specs.Value.{value_made, lists_of, lists_in, value_of}
 use Rattle.script_text.specs.Evaluating.{IsWithin, AreLists, AreValues}
 use Rattle.script_text.proofs.Registers.{length-registers}
@@ -24,13 +25,13 @@ degree_halves S8192 = refl
 degree_halves S16384 = refl
 
 -- a step fits the registers before it
-pub fits_at : (set : SetName) (plains : ℕ) (parts : List ℕ) (steps : List Step) (i : ℕ) (step : Step) → AllFit set plains parts steps → slice_get steps i ≡ Some step
-    → Fits set plains (registers parts_made parts (take i steps)) step.op
-fits_at set plains parts [] i step all is = absurd cc
-fits_at set plains parts (first ∷ steps) zero step all is =
+pub fits_at : (set : SetName) (plains : ℕ) (shapes : List Shape) (steps : List Step) (i : ℕ) (step : Step) → AllFit set plains shapes steps → slice_get steps i ≡ Some step
+    → Fits set plains (registers shape_made shapes (take i steps)) step.op
+fits_at set plains shapes [] i step all is = absurd cc
+fits_at set plains shapes (first ∷ steps) zero step all is =
     let same : first ≡ step = cc in
-    subst (λ (s : Step). Fits set plains parts s.op) same all.0
-fits_at set plains parts (first ∷ steps) (suc i) step all is = fits_at set plains (parts ++ parts_made parts first.op ∷ []) steps i step all.1 is
+    subst (λ (s : Step). Fits set plains shapes s.op) same all.0
+fits_at set plains shapes (first ∷ steps) (suc i) step all is = fits_at set plains (shapes ++ shape_made shapes first.op ∷ []) steps i step all.1 is
 
 -- the step at a place
 step_at : (steps : List Step) (i : ℕ) (op : Op) → i < length steps → IfSome (slice_get steps i) (λ step. op ≡ step.op) → (step : Step) × (slice_get steps i ≡ Some step) × (op ≡ step.op)
@@ -38,10 +39,10 @@ step_at [] i op below is = absurd (omega arith)
 step_at (first ∷ steps) zero op below is = (first, refl, is)
 step_at (first ∷ steps) (suc i) op below is = step_at steps i op (omega arith) is
 
-count_before : (script : Script) (i : ℕ) → i ≤ length script.steps → length (registers parts_made (replicate (length (cipher_inputs script.inputs)) 2) (take i script.steps)) ≡ length (cipher_inputs script.inputs) + i
+count_before : (script : Script) (i : ℕ) → i ≤ length script.steps → length (registers shape_made (replicate (length (cipher_inputs script.inputs)) input_shape) (take i script.steps)) ≡ length (cipher_inputs script.inputs) + i
 count_before script i below =
-    let all = length-registers parts_made (replicate (length (cipher_inputs script.inputs)) 2) (take i script.steps) in
-    let ciphers = length-replicate {A = ℕ} (length (cipher_inputs script.inputs)) 2 in
+    let all = length-registers shape_made (replicate (length (cipher_inputs script.inputs)) input_shape) (take i script.steps) in
+    let ciphers = length-replicate {A = Shape} (length (cipher_inputs script.inputs)) input_shape in
     let taken = length-take i script.steps in
     omega arith
 
@@ -50,7 +51,7 @@ pub within_at : (script : Script) (i : ℕ) (op : Op) (t plains registers : ℕ)
     → t ≡ plain_of script.set → plains ≡ length (plain_inputs script.inputs) → registers ≡ length (cipher_inputs script.inputs) + i → IsWithin t plains registers op
 within_at script i op t plains registers sound below is t_is plains_are registers_are =
     let found = step_at script.steps i op below is in
-    let fits = fits_at script.set (length (plain_inputs script.inputs)) (replicate (length (cipher_inputs script.inputs)) 2) script.steps i found.0 sound.fit found.1 in
+    let fits = fits_at script.set (length (plain_inputs script.inputs)) (replicate (length (cipher_inputs script.inputs)) input_shape) script.steps i found.0 sound.fit found.1 in
     let count = count_before script i (omega arith) in
     rw (t_is, plains_are, registers_are, ← count, found.2) (fits.operands, fits.plain, fits.factor)
 

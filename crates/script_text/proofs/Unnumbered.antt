@@ -5,7 +5,6 @@ use Rattle.std.specs.List.{filter}
 use Rattle.std.specs.Option.{option_map}
 use Rattle.std.specs.Str.{bytes_eq}
 use Rattle.std.proofs.lemmas.List.{map-append, length-map}
-use Rattle.set_table.specs.declared.SetName.{SetName}
 use Rattle.line_text.specs.Lines.{Line}
 use Rattle.line_text.specs.Names.{is_name}
 use Rattle.script_text.specs.declared.faults.ScriptPlace.{ScriptPlace}
@@ -19,8 +18,10 @@ use Rattle.script_text.specs.declared.script.Op.{Op}
 use Rattle.script_text.specs.declared.script.Input.{Input}
 use Rattle.script_text.specs.declared.script.Step.{Step}
 use Rattle.script_text.specs.Keywords.{second_of, operation}
-use Rattle.script_text.specs.Scripts.{is_cipher, is_plain, cipher_inputs, plain_inputs, names_of, parts_of, parts_made, registers}
-use Rattle.script_text.specs.Grammar.{Draft, is_new, register_named, plain_named, set_named, set_line, input_line, output_line, takes_one, is_second, second_value, has_shape, with_step, short_step, long_step, short_line, keyword_after, next_line, after_line, after_lines, demand, demand_some, followed}
+use Rattle.script_text.specs.declared.script.Shape as shape
+use Rattle.script_text.specs.Scripts.{is_cipher, is_plain, cipher_inputs, plain_inputs, names_of, shapes_of, shape_made, registers, input_shape, has_shape}
+use Rattle.set_table.specs.Sets.{set_named}
+use Rattle.script_text.specs.Grammar.{Draft, is_new, register_named, plain_named, set_line, input_line, output_line, takes_one, is_second, second_value, with_step, short_step, long_step, short_line, keyword_after, next_line, after_line, after_lines, demand, demand_some, followed}
 
 -- ---- numbers left out
 
@@ -115,14 +116,14 @@ second_bare draft second.Plain word = plain_bare draft word
 second_bare draft second.Factor word = refl
 second_bare draft second.Distance word = refl
 
-parts_made_bare : (parts : List ℕ) (steps : List Step) → registers parts_made parts steps ≡ registers parts_made parts (map bare_step steps)
-parts_made_bare parts [] = refl
-parts_made_bare parts (step ∷ steps) = parts_made_bare (parts ++ parts_made parts step.op ∷ []) steps
+shape_made_bare : (shapes : List shape.Shape) (steps : List Step) → registers shape_made shapes steps ≡ registers shape_made shapes (map bare_step steps)
+shape_made_bare shapes [] = refl
+shape_made_bare shapes (step ∷ steps) = shape_made_bare (shapes ++ shape_made shapes step.op ∷ []) steps
 
-parts_bare : (draft : Draft) → parts_of draft.inputs draft.steps ≡ parts_of (map bare_input draft.inputs) (map bare_step draft.steps)
-parts_bare draft =
-    ap (λ (n : ℕ). registers parts_made (replicate n 2) draft.steps) (sym (ap length (ciphers_bare draft.inputs) ∙ length-map (cipher_inputs draft.inputs) bare_input))
-    ∙ parts_made_bare (replicate (length (cipher_inputs (map bare_input draft.inputs))) 2) draft.steps
+shapes_bare : (draft : Draft) → shapes_of draft.inputs draft.steps ≡ shapes_of (map bare_input draft.inputs) (map bare_step draft.steps)
+shapes_bare draft =
+    ap (λ (n : ℕ). registers shape_made (replicate n input_shape) draft.steps) (sym (ap length (ciphers_bare draft.inputs) ∙ length-map (cipher_inputs draft.inputs) bare_input))
+    ∙ shape_made_bare (replicate (length (cipher_inputs (map bare_input draft.inputs))) input_shape) draft.steps
 
 -- ---- one line
 
@@ -166,8 +167,8 @@ step_bared draft at name op =
     let step : Step = record { name = name; op = op; line = 0 } in
     let one : Step = record { name = name; op = op; line = at } in
     let added : List Step → Result Draft ScriptPlace = λ (steps : List Step). Ok (record (bare draft) { steps = steps }) in
-    bared_demand (has_shape (parts_of draft.inputs draft.steps) op) (Shape at) (Ok (record draft { steps = draft.steps ++ one ∷ [] })) _ (ap added (map-append bare_step draft.steps (one ∷ [])))
-    ∙ ap (λ (parts : List ℕ). demand (has_shape parts op) (Shape 0) (added (map bare_step draft.steps ++ step ∷ []))) (parts_bare draft)
+    bared_demand (has_shape (shapes_of draft.inputs draft.steps) op) (Shape at) (Ok (record draft { steps = draft.steps ++ one ∷ [] })) _ (ap added (map-append bare_step draft.steps (one ∷ [])))
+    ∙ ap (λ (shapes : List shape.Shape). demand (has_shape shapes op) (Shape 0) (added (map bare_step draft.steps ++ step ∷ []))) (shapes_bare draft)
 
 short_step_bared : (draft : Draft) (at : ℕ) (name : List ℕ) (keyword : Keyword) (a : List ℕ) → bared (short_step draft at name keyword a) ≡ short_step (bare draft) 0 name keyword a
 unfolding short_step

@@ -4,15 +4,15 @@ use Rattle.script_text.specs.declared.draft.Draft as declared
 use Rattle.script_text.specs.declared.faults.ScriptPlace.{ScriptPlace}
 use Rattle.script_text.specs.declared.faults.ScriptFault.{ScriptFault}
 use Rattle.script_text.specs.declared.faults.ScriptFault.TheVariants as fault
-use Rattle.script_text.specs.Scripts.{parts_of}
+use Rattle.script_text.specs.Scripts.{shapes_of}
 use Rattle.script_text.specs.Grammar.{Draft}
 
 abbrev pub draft_seen : declared.Draft → Draft
 draft_seen draft = record { set = draft.set; inputs = draft.inputs.items; steps = draft.steps.items; output = draft.output }
 
--- before line `at`: the parts are those of the registers, and no line gave more than one input or step
+-- before line `at`: the shapes are those of the registers, and no line gave more than one input or step
 pub record IsKept (draft : declared.Draft) (at : ℕ) : Type 0 where
-  pub parts : draft.parts.items ≡ parts_of draft.inputs.items draft.steps.items
+  pub shapes : draft.shapes.items ≡ shapes_of draft.inputs.items draft.steps.items
   pub few : length draft.inputs.items + length draft.steps.items < at
 
 -- the fault is the one that reading gives, or there was no memory

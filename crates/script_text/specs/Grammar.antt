@@ -1,12 +1,12 @@
 -- The grammar of scripts: the script that a text is, or its first fault. Lines and words are those of any text.
-use Rattle.std.specs.Prelude.{ℕ, ◌+◌, ◌/◌, Bool, true, false, ◌||◌, ◌&&◌, not, nat_lt, ◌==◌, if◌then◌else◌, List, [], ◌∷◌, ◌++◌, length, map, Option, Some, None, is_none, Result, Ok, Err, codes, slice_index, position}
-use Rattle.std.specs.List.{count_by, find}
+use Rattle.std.specs.Prelude.{ℕ, ◌+◌, ◌/◌, Bool, true, false, ◌||◌, ◌&&◌, not, nat_lt, ◌==◌, if◌then◌else◌, List, [], ◌∷◌, ◌++◌, length, map, Option, Some, None, is_none, Result, Ok, Err, codes, position}
+use Rattle.std.specs.List.{count_by}
 use Rattle.std.specs.Str.{bytes_eq}
 use Rattle.set_table.specs.declared.SetName.{SetName}
-use Rattle.set_table.specs.declared.SetName.TheVariants.{One16, Toy16, S4096, S8192, S16384}
-use Rattle.set_table.specs.Sets.{name_of, degree_of, plain_of}
+use Rattle.set_table.specs.Sets.{set_named, degree_of, plain_of}
 use Rattle.line_text.specs.Lines.{Line, lines_of, counted_lines}
 use Rattle.line_text.specs.Names.{written_number, is_name, is_number_in}
+use Rattle.script_text.specs.Limits.{max_script_bytes, max_inputs, max_steps}
 use Rattle.script_text.specs.Keywords.{keyword_named, second_of, operation}
 use Rattle.script_text.specs.declared.keyword.Keyword.{Keyword}
 use Rattle.script_text.specs.declared.keyword.Second.{Second}
@@ -16,10 +16,9 @@ use Rattle.script_text.specs.declared.faults.ScriptPlace.TheVariants.{Syntax, Na
 use Rattle.script_text.specs.declared.script.InputKind.{InputKind}
 use Rattle.script_text.specs.declared.script.InputKind.TheVariants.{Cipher, Plain}
 use Rattle.script_text.specs.declared.script.Op.{Op}
-use Rattle.script_text.specs.declared.script.Op.TheVariants.{Mul, Relin, Turn, Swap}
 use Rattle.script_text.specs.declared.script.Input.{Input}
 use Rattle.script_text.specs.declared.script.Step.{Step}
-use Rattle.script_text.specs.Scripts.{Script, cipher_inputs, plain_inputs, names_of, parts_of}
+use Rattle.script_text.specs.Scripts.{Script, cipher_inputs, plain_inputs, names_of, shapes_of, has_shape}
 
 -- ---- the text as a whole
 
@@ -33,12 +32,12 @@ abbrev pub is_input_line : List (List ℕ) → Bool
 is_input_line [] = false
 is_input_line (word ∷ words) = not (is_step_line (word ∷ words)) && (bytes_eq word (codes "cipher") || bytes_eq word (codes "plain"))
 
--- more than 1,048,576 bytes, 64 inputs or 4,096 steps
+-- more bytes, inputs or steps than a script has
 abbrev pub is_too_long : List ℕ → Bool
 is_too_long text =
-    nat_lt 1048576 (length text)
-    || nat_lt 64 (count_by (λ line. is_input_line line.words) (counted_lines text))
-    || nat_lt 4096 (count_by (λ line. is_step_line line.words) (counted_lines text))
+    nat_lt max_script_bytes (length text)
+    || nat_lt max_inputs (count_by (λ line. is_input_line line.words) (counted_lines text))
+    || nat_lt max_steps (count_by (λ line. is_step_line line.words) (counted_lines text))
 
 -- ---- a line, by those before it
 
@@ -65,16 +64,13 @@ followed (Ok x) next = next x
 followed (Err fault) next = Err fault
 
 -- the result where what it demands holds, and the fault elsewhere
-abbrev pub demand : {A : Type 0} → Bool → ScriptPlace → Result A ScriptPlace → Result A ScriptPlace
+abbrev pub demand : {A E : Type 0} → Bool → E → Result A E → Result A E
 demand holds fault result = if holds then result else Err fault
 
 -- what follows from a value, and the fault where there is none
 abbrev pub demand_some : {A B : Type 0} → Option A → ScriptPlace → (A → Result B ScriptPlace) → Result B ScriptPlace
 demand_some None fault result = Err fault
 demand_some (Some x) fault result = result x
-
-abbrev pub set_named : List ℕ → Option SetName
-set_named word = find (λ set. bytes_eq (name_of set) word) (One16 ∷ Toy16 ∷ S4096 ∷ S8192 ∷ S16384 ∷ [])
 
 -- `set SET`
 unfoldable pub set_line : ℕ → List (List ℕ) → Result Draft ScriptPlace
@@ -83,12 +79,19 @@ set_line at (keyword ∷ word ∷ []) =
     (demand_some (set_named word) (Syntax at) (λ set. Ok (record { set = set; inputs = []; steps = []; output = None })))
 set_line at words = Err (Syntax at)
 
+-- with one more input, and with one more step
+abbrev pub input_added : Draft → ℕ → InputKind → List ℕ → Draft
+input_added draft at kind name = record draft { inputs = draft.inputs ++ record { name = name; kind = kind; line = at } ∷ [] }
+
+abbrev pub step_added : Draft → ℕ → List ℕ → Op → Draft
+step_added draft at name op = record draft { steps = draft.steps ++ record { name = name; op = op; line = at } ∷ [] }
+
 -- `cipher NAME` or `plain NAME`, before all steps
 unfoldable pub input_line : Draft → ℕ → InputKind → List ℕ → Result Draft ScriptPlace
 input_line draft at kind name =
     demand (is_name name && (length draft.steps == 0)) (Syntax at)
     (demand (is_new draft name) (Name at)
-    (Ok (record draft { inputs = draft.inputs ++ record { name = name; kind = kind; line = at } ∷ [] })))
+    (Ok (input_added draft at kind name)))
 
 -- `output NAME`
 unfoldable pub output_line : Draft → ℕ → List ℕ → Result Draft ScriptPlace
@@ -117,18 +120,10 @@ second_value draft second.Plain word = plain_named draft word
 second_value draft second.Factor word = Some (written_number word)
 second_value draft second.Distance word = Some (written_number word)
 
--- the operands have the parts that the operation takes
-unfoldable pub has_shape : List ℕ → Op → Bool
-has_shape parts (Mul a b) = (slice_index parts a == 2) && (slice_index parts b == 2)
-has_shape parts (Relin a) = slice_index parts a == 3
-has_shape parts (Turn a k) = slice_index parts a == 2
-has_shape parts (Swap a) = slice_index parts a == 2
-has_shape parts op = true
-
 unfoldable pub with_step : Draft → ℕ → List ℕ → Op → Result Draft ScriptPlace
 with_step draft at name op =
-    demand (has_shape (parts_of draft.inputs draft.steps) op) (Shape at)
-    (Ok (record draft { steps = draft.steps ++ record { name = name; op = op; line = at } ∷ [] }))
+    demand (has_shape (shapes_of draft.inputs draft.steps) op) (Shape at)
+    (Ok (step_added draft at name op))
 
 -- NAME = KEYWORD A
 unfoldable pub short_step : Draft → ℕ → List ℕ → Keyword → List ℕ → Result Draft ScriptPlace

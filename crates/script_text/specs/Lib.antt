@@ -1,9 +1,11 @@
+pub mod Limits
 pub mod Reading
 pub mod Values
 pub mod Scripts
 pub mod Keywords
 pub mod Grammar
 pub mod Drafts
+pub mod Making
 pub mod Value
 pub mod Printed
 pub mod Evaluating

@@ -11,7 +11,7 @@ use Rattle.script_text.specs.declared.script.Op.TheVariants.{Add, Sub, Neg, AddP
 use Rattle.script_text.specs.declared.script.Input.{Input}
 use Rattle.script_text.specs.declared.script.Step.{Step}
 use Rattle.script_text.specs.Keywords.{keyword_text}
-use Rattle.script_text.specs.Scripts.{Script, cipher_inputs, plain_inputs, names_of}
+use Rattle.script_text.specs.Scripts.{Script, plain_inputs, register_names}
 
 -- a line: its words with one space between each two, and a line feed
 abbrev pub printed_line : List (List ℕ) → List ℕ
@@ -61,9 +61,6 @@ second_words registers plains (Mul a b) = slice_index_or registers b [] ∷ []
 second_words registers plains (Relin a) = []
 second_words registers plains (Turn a k) = decimal k ∷ []
 second_words registers plains (Swap a) = []
-
-abbrev pub register_names : Script → List (List ℕ)
-register_names script = names_of (cipher_inputs script.inputs) script.steps
 
 abbrev pub plain_names : Script → List (List ℕ)
 plain_names script = map (λ input. input.name) (plain_inputs script.inputs)

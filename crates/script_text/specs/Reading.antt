@@ -4,6 +4,7 @@ use Rattle.std.specs.List.{list_all, slice_split}
 use Rattle.std.specs.Option.{option_or}
 use Rattle.std.specs.Char.{is_ascii_digit}
 use Rattle.line_text.specs.Names.{written_number}
+use Rattle.script_text.specs.Limits.{max_values_bytes}
 use Rattle.script_text.specs.declared.faults.ValuePlace.{ValuePlace}
 use Rattle.script_text.specs.declared.faults.ValuePlace.TheVariants.{BadText, TooLarge, TooMany, TooLong}
 
@@ -37,7 +38,7 @@ earlier (Some a) (Some b) = Some (min a b)
 -- what is wrong with a text that is to have at most n values, all below t, in the order in which it is told
 abbrev pub fault_of_text : List ℕ → ℕ → ℕ → Option ValuePlace
 fault_of_text text n t =
-    option_or (if nat_lt 4194304 (length text) then Some TooLong else None)
+    option_or (if nat_lt max_values_bytes (length text) then Some TooLong else None)
     (option_or (option_map BadText (earlier (first_stray text) (first_surplus text)))
     (option_or (if nat_lt n (length (numbers text)) then Some TooMany else None)
     (option_map TooLarge (position (λ value. nat_le t value) (numbers text)))))

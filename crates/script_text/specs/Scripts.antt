@@ -1,16 +1,18 @@
 -- Scripts: what they consist of, and what holds of every one.
-use Rattle.std.specs.Prelude.{◌≡◌, ◌≢◌, ℕ, ◌+◌, ◌*◌, ◌/◌, ◌%◌, ◌^◌, ◌-◌, ◌<◌, ◌≤◌, max, Bool, true, false, List, [], ◌∷◌, ◌++◌, length, map, fold, filter, replicate, slice_index, All, IsTrue, Option, Some, None, IfSome}
-use Rattle.std.specs.List.{flat_map, AllPairs, AllByRecursion}
+use Rattle.std.specs.Prelude.{◌≡◌, ◌≢◌, ℕ, ◌+◌, ◌*◌, ◌/◌, ◌%◌, ◌^◌, ◌-◌, ◌<◌, ◌≤◌, ◌==◌, max, Bool, true, false, List, [], ◌∷◌, ◌++◌, length, map, fold, filter, replicate, slice_index_or, All, IsTrue, Option, Some, None, IfSome}
+use Rattle.std.specs.List.{flat_map, list_all, AllPairs, AllByRecursion}
 use Rattle.std.specs.Option.{option_or}
 use Rattle.set_table.specs.declared.SetName.{SetName}
 use Rattle.set_table.specs.declared.KeyKind.{KeyKind}
 use Rattle.set_table.specs.declared.KeyKind.TheVariants as key
 use Rattle.set_table.specs.Sets.{degree_of, plain_of}
 use Rattle.line_text.specs.Names.{is_name}
+use Rattle.script_text.specs.Limits.{max_inputs, max_steps}
 use Rattle.script_text.specs.declared.script.InputKind.TheVariants.{Cipher, Plain}
 use Rattle.script_text.specs.declared.script.Op.{Op}
 use Rattle.script_text.specs.declared.script.Op.TheVariants.{Add, Sub, Neg, AddPlain, SubPlain, MulPlain, MulConst, Mul, Relin, Turn, Swap}
 use Rattle.script_text.specs.declared.script.Input.{Input}
+use Rattle.script_text.specs.declared.script.Shape.{Shape}
 use Rattle.script_text.specs.declared.script.Step.{Step}
 
 -- A script: its parameter set, its inputs and steps in order, and the number of the register that it puts out. The cipher inputs and
@@ -72,23 +74,31 @@ distance_of op = None
 abbrev pub number_operand_of : Op → Option ℕ
 number_operand_of op = option_or (factor_of op) (distance_of op)
 
--- how many parts the result of an operation has, by those of the registers before it
-abbrev pub parts_made : List ℕ → Op → ℕ
-parts_made parts (Add a b) = max (slice_index parts a) (slice_index parts b)
-parts_made parts (Sub a b) = max (slice_index parts a) (slice_index parts b)
-parts_made parts (Neg a) = slice_index parts a
-parts_made parts (AddPlain a p) = slice_index parts a
-parts_made parts (SubPlain a p) = slice_index parts a
-parts_made parts (MulPlain a p) = slice_index parts a
-parts_made parts (MulConst a k) = slice_index parts a
-parts_made parts (Mul a b) = 3
-parts_made parts (Relin a) = 2
-parts_made parts (Turn a k) = 2
-parts_made parts (Swap a) = 2
+-- the shape of a cipher input
+abbrev pub input_shape : Shape
+input_shape = record { parts = 2 }
 
--- the parts of each register; a cipher input has two
-abbrev pub parts_of : List Input → List Step → List ℕ
-parts_of inputs steps = registers parts_made (replicate (length (cipher_inputs inputs)) 2) steps
+-- the shape of a register; one that isn't there has no parts
+abbrev pub shape_at : List Shape → ℕ → Shape
+shape_at shapes register = slice_index_or shapes register (record { parts = 0 })
+
+-- the shape of an operation's result, by those of the registers before it
+abbrev pub shape_made : List Shape → Op → Shape
+shape_made shapes (Add a b) = record { parts = max (shape_at shapes a).parts (shape_at shapes b).parts }
+shape_made shapes (Sub a b) = record { parts = max (shape_at shapes a).parts (shape_at shapes b).parts }
+shape_made shapes (Neg a) = shape_at shapes a
+shape_made shapes (AddPlain a p) = shape_at shapes a
+shape_made shapes (SubPlain a p) = shape_at shapes a
+shape_made shapes (MulPlain a p) = shape_at shapes a
+shape_made shapes (MulConst a k) = shape_at shapes a
+shape_made shapes (Mul a b) = record { parts = 3 }
+shape_made shapes (Relin a) = record { parts = 2 }
+shape_made shapes (Turn a k) = record { parts = 2 }
+shape_made shapes (Swap a) = record { parts = 2 }
+
+-- the shapes of the registers
+abbrev pub shapes_of : List Input → List Step → List Shape
+shapes_of inputs steps = registers shape_made (replicate (length (cipher_inputs inputs)) input_shape) steps
 
 -- how many parts an operation takes of each register that it reads, where it doesn't take any number
 abbrev pub parts_taken : Op → Option ℕ
@@ -98,32 +108,62 @@ parts_taken (Turn a k) = Some 2
 parts_taken (Swap a) = Some 2
 parts_taken op = None
 
+-- each of these registers has so many parts, where a number is asked for
+abbrev pub have_parts : List Shape → Option ℕ → List ℕ → Bool
+have_parts shapes None registers = true
+have_parts shapes (Some n) registers = list_all (λ register. (shape_at shapes register).parts == n) registers
+
+-- the registers that an operation reads have the parts that it takes
+unfoldable pub has_shape : List Shape → Op → Bool
+has_shape shapes op = have_parts shapes (parts_taken op) (operands_of op)
+
 -- An operation that may follow these registers: it reads registers among them and plain inputs among so many, a factor is below t, rows
 -- of n / 2 slots are turned by less than their length but not by 0, and the registers have the parts that it takes.
-pub record Fits (set : SetName) (plains : ℕ) (parts : List ℕ) (op : Op) : Type 0 where
-  pub operands : AllByRecursion (λ register. register < length parts) (operands_of op)
+pub record Fits (set : SetName) (plains : ℕ) (shapes : List Shape) (op : Op) : Type 0 where
+  pub operands : AllByRecursion (λ register. register < length shapes) (operands_of op)
   pub plain : IfSome (plain_operand_of op) (λ plain. plain < plains)
   pub factor : IfSome (factor_of op) (λ factor. factor < plain_of set)
   pub distance : IfSome (distance_of op) (λ distance. (0 < distance) × (distance < degree_of set / 2))
-  pub taken : IfSome (parts_taken op) (λ n. AllByRecursion (λ register. slice_index parts register ≡ n) (operands_of op))
+  pub taken : IfSome (parts_taken op) (λ n. AllByRecursion (λ register. (shape_at shapes register).parts ≡ n) (operands_of op))
 
 -- the names that are defined, in order
 abbrev pub names_of : List Input → List Step → List (List ℕ)
 names_of inputs steps = map (λ input. input.name) inputs ++ map (λ step. step.name) steps
 
 -- every operation fits the registers before it
-abbrev pub AllFit : SetName → ℕ → List ℕ → List Step → Type 0
-AllFit set plains parts [] = Unit {0}
-AllFit set plains parts (step ∷ steps) = Fits set plains parts step.op × AllFit set plains (parts ++ parts_made parts step.op ∷ []) steps
+abbrev pub AllFit : SetName → ℕ → List Shape → List Step → Type 0
+AllFit set plains shapes [] = Unit {0}
+AllFit set plains shapes (step ∷ steps) = Fits set plains shapes step.op × AllFit set plains (shapes ++ shape_made shapes step.op ∷ []) steps
 
 -- what holds of every script
 pub record IsSound (script : Script) : Type 0 where
-  pub few_inputs : length script.inputs ≤ 64
-  pub few_steps : length script.steps ≤ 4096
+  pub few_inputs : length script.inputs ≤ max_inputs
+  pub few_steps : length script.steps ≤ max_steps
   pub names : All (λ name. IsTrue (is_name name)) (names_of script.inputs script.steps)
   pub distinct : AllPairs (λ name later. name ≢ later) (names_of script.inputs script.steps)
-  pub fit : AllFit script.set (length (plain_inputs script.inputs)) (replicate (length (cipher_inputs script.inputs)) 2) script.steps
+  pub fit : AllFit script.set (length (plain_inputs script.inputs)) (replicate (length (cipher_inputs script.inputs)) input_shape) script.steps
   pub output : script.output < length (cipher_inputs script.inputs) + length script.steps
+
+-- A register: its name, the line that defines it, and the shape of its cipher.
+pub record Register : Type 0 where
+  pub name : List ℕ
+  pub line : ℕ
+  pub shape : Shape
+
+-- registers with these names, lines and shapes, one of each in turn
+abbrev pub registers_with : List (List ℕ) → List ℕ → List Shape → List Register
+registers_with (name ∷ names) (line ∷ lines) (shape ∷ shapes) = record { name = name; line = line; shape = shape } ∷ registers_with names lines shapes
+registers_with names lines shapes = []
+
+abbrev pub register_names : Script → List (List ℕ)
+register_names script = names_of (cipher_inputs script.inputs) script.steps
+
+abbrev pub register_lines : Script → List ℕ
+register_lines script = map (λ input. input.line) (cipher_inputs script.inputs) ++ map (λ step. step.line) script.steps
+
+-- the registers of a script: those that its cipher inputs and then those that its steps define
+abbrev pub registers_of : Script → List Register
+registers_of script = registers_with (register_names script) (register_lines script) (shapes_of script.inputs script.steps)
 
 -- whether an operation is linear: none but these switches keys or multiplies two ciphers
 abbrev pub is_linear : Op → Bool

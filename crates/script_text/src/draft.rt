@@ -1,20 +1,20 @@
 // What the lines of a script give, one after the other.
-ghost use Rattle.std.specs.Prelude.{◌≡◌, ◌+◌, ◌<◌, ◌^◌, [], length, IfOk, IsTrue, slice_index, slice_index_or};
+ghost use Rattle.std.specs.Prelude.{◌≡◌, ◌+◌, ◌<◌, ◌^◌, ◌==◌, ℕ, [], None, nat_lt, length, IfOk, IsTrue, slice_index_or};
 ghost use Rattle.script_text.specs.Drafts.{draft_seen, Gives, IsKept};
 ghost use Rattle.line_text.specs.Names.{is_name};
-ghost use Rattle.script_text.specs.Scripts.{parts_made};
+ghost use Rattle.script_text.specs.Scripts.{has_shape, shape_at, shape_made, shapes_of, plain_inputs};
 ghost use Rattle.line_text.specs.Lines.{words_of};
-ghost use Rattle.script_text.specs.Grammar.{register_named, plain_named, is_new, set_line, input_line, output_line, is_second, second_value, has_shape, with_step, short_step, long_step, short_line, keyword_after, next_line};
+ghost use Rattle.script_text.specs.Grammar.{register_named, plain_named, is_new, input_added, step_added, set_line, input_line, output_line, is_second, second_value, with_step, short_step, long_step, short_line, keyword_after, next_line};
+ghost use Rattle.script_text.specs.Making.{register_count, has_operands, has_number};
 ghost use Rattle.script_text.specs.declared.faults.ScriptPlace.TheVariants as place;
 ghost use Rattle.script_text.specs.declared.faults.ScriptFault.TheVariants as fault;
 
 use crate::faults::{ScriptFault, ScriptPlace};
 use crate::keyword::{Keyword, Second};
-use crate::script::{Input, InputKind, Op, Step};
-use crate::words::set_named;
+use crate::script::{Input, InputKind, Op, Shape, Step};
 use line_text::{Name, count_words, is_name, number_in, read_number, word};
 use set_table::SetName;
-use std::alloc::Global;
+use std::alloc::{AllocError, Global};
 
 /// What lines without fault give, from the set line on.
 #[derive(Drop)]
@@ -22,8 +22,8 @@ pub struct Draft {
     pub set: SetName,
     pub inputs: Vec<Input>,
     pub steps: Vec<Step>,
-    /// The parts of each register.
-    pub parts: Vec<u8>,
+    /// The shape of each register.
+    pub shapes: Vec<Shape>,
     pub output: Option<u32>,
 }
 
@@ -52,6 +52,20 @@ fn keyword_of(line: &[u8]) -> Option<Keyword>
 }
 
 impl Draft {
+    /// A draft of this set with nothing else.
+    pub fn new(alloc: Global, set: SetName) -> Draft
+        ensures value { draft_seen result ≡ record { set = set; inputs = []; steps = []; output = None } }
+        ensures kept { (at : ℕ) → 0 < at → IsKept result at }
+    {
+        Draft {
+            set,
+            inputs: Vec::new(alloc),
+            steps: Vec::new(alloc),
+            shapes: Vec::new(alloc),
+            output: None,
+        }
+    }
+
     /// The draft after the set line.
     #[tactic(auto, unfolding(crate::specs::Grammar::set_line))]
     pub fn from_set_line(alloc: Global, at: u32, line: &[u8]) -> Result<Draft, ScriptFault>
@@ -62,14 +76,8 @@ impl Draft {
         if count_words(line) != 2 || word(line, 0) != b"set".as_slice() {
             return Err(syntax(at));
         }
-        match set_named(word(line, 1)) {
-            Some(set) => Ok(Draft {
-                set,
-                inputs: Vec::new(alloc),
-                steps: Vec::new(alloc),
-                parts: Vec::new(alloc),
-                output: None,
-            }),
+        match SetName::from_bytes(word(line, 1)) {
+            Some(set) => Ok(Draft::new(alloc, set)),
             None => Err(syntax(at)),
         }
     }
@@ -104,44 +112,105 @@ impl Draft {
     }
 
     #[tactic(auto, unfolding(crate::specs::Grammar::is_new))]
-    fn is_new(&self, name: &[u8]) -> bool
+    pub fn is_new(&self, name: &[u8]) -> bool
         requires { length self.now.inputs.items + length self.now.steps.items < 2 ^ 32 }
         ensures { result ≡ is_new (draft_seen self.now) name.now }
     {
         self.register_named(name).is_none() && self.plain_named(name).is_none()
     }
 
-    /// The parts of a register, 0 of one that isn't there.
-    fn parts_at(&self, register: u32) -> u8
-        ensures { result ≡ slice_index self.now.parts.items register }
+    fn has_register(&self, register: u32) -> bool
+        requires { self.now.shapes.items ≡ shapes_of self.now.inputs.items self.now.steps.items }
+        ensures { result ≡ nat_lt register (register_count (draft_seen self.now)) }
     {
-        self.parts.get(register as usize).copied().unwrap_or(0)
+        (register as usize) < self.shapes.len()
     }
 
-    #[tactic(auto, unfolding(crate::specs::Grammar::has_shape))]
-    fn has_shape(&self, op: Op) -> bool
-        ensures { result ≡ has_shape self.now.parts.items op }
+    fn has_plain(&self, plain: u32) -> bool
+        ensures { result ≡ nat_lt plain (length (plain_inputs self.now.inputs.items)) }
+    {
+        let plains = self
+            .inputs
+            .iter()
+            .filter(|input| matches!(input.kind, InputKind::Plain))
+            .count();
+        (plain as usize) < plains
+    }
+
+    /// Whether the registers and the plain input that an operation reads are there.
+    #[tactic(auto, unfolding(crate::specs::Making::has_operands))]
+    pub fn has_operands(&self, op: Op) -> bool
+        requires { self.now.shapes.items ≡ shapes_of self.now.inputs.items self.now.steps.items }
+        ensures { result ≡ has_operands (draft_seen self.now) op }
     {
         match op {
-            Op::Mul(a, b) => self.parts_at(a) == 2 && self.parts_at(b) == 2,
-            Op::Relin(a) => self.parts_at(a) == 3,
-            Op::Turn(a, _) | Op::Swap(a) => self.parts_at(a) == 2,
+            Op::Add(a, b) | Op::Sub(a, b) | Op::Mul(a, b) => {
+                self.has_register(a) && self.has_register(b)
+            }
+            Op::AddPlain(a, p) | Op::SubPlain(a, p) | Op::MulPlain(a, p) => {
+                self.has_register(a) && self.has_plain(p)
+            }
+            Op::Neg(a) | Op::MulConst(a, _) | Op::Relin(a) | Op::Turn(a, _) | Op::Swap(a) => {
+                self.has_register(a)
+            }
+        }
+    }
+
+    /// Whether a factor is below the plaintext modulus, and rows are turned by less than their
+    /// length but not by 0.
+    #[tactic(auto, unfolding(crate::specs::Making::has_number))]
+    pub fn has_number(&self, op: Op) -> bool
+        ensures { result ≡ has_number self.now.set op }
+    {
+        match op {
+            Op::MulConst(_, k) => k < self.set.plain(),
+            Op::Turn(_, k) => 0 < k && (k as usize) < self.set.degree() / 2,
             _ => true,
         }
     }
 
-    fn parts_made(&self, op: Op) -> u8
-        ensures { result ≡ parts_made self.now.parts.items op }
+    /// The shape of a register; one that isn't there has no parts.
+    fn shape_at(&self, register: u32) -> Shape
+        ensures { result ≡ shape_at self.now.shapes.items register }
+    {
+        self.shapes
+            .get(register as usize)
+            .copied()
+            .unwrap_or(Shape { parts: 0 })
+    }
+
+    fn has_parts(&self, register: u32, parts: u8) -> bool
+        ensures { result ≡ ((shape_at self.now.shapes.items register).parts == parts) }
+    {
+        self.shape_at(register).parts == parts
+    }
+
+    #[tactic(auto, unfolding(crate::specs::Scripts::has_shape))]
+    pub fn has_shape(&self, op: Op) -> bool
+        ensures { result ≡ has_shape self.now.shapes.items op }
     {
         match op {
-            Op::Add(a, b) | Op::Sub(a, b) => self.parts_at(a).max(self.parts_at(b)),
+            Op::Mul(a, b) => self.has_parts(a, 2) && self.has_parts(b, 2),
+            Op::Relin(a) => self.has_parts(a, 3),
+            Op::Turn(a, _) | Op::Swap(a) => self.has_parts(a, 2),
+            _ => true,
+        }
+    }
+
+    fn shape_made(&self, op: Op) -> Shape
+        ensures { result ≡ shape_made self.now.shapes.items op }
+    {
+        match op {
+            Op::Add(a, b) | Op::Sub(a, b) => Shape {
+                parts: self.shape_at(a).parts.max(self.shape_at(b).parts),
+            },
             Op::Neg(a)
             | Op::AddPlain(a, _)
             | Op::SubPlain(a, _)
             | Op::MulPlain(a, _)
-            | Op::MulConst(a, _) => self.parts_at(a),
-            Op::Mul(_, _) => 3,
-            Op::Relin(_) | Op::Turn(_, _) | Op::Swap(_) => 2,
+            | Op::MulConst(a, _) => self.shape_at(a),
+            Op::Mul(_, _) => Shape { parts: 3 },
+            Op::Relin(_) | Op::Turn(_, _) | Op::Swap(_) => Shape { parts: 2 },
         }
     }
 
@@ -174,7 +243,7 @@ impl Draft {
 
     #[tactic(auto, unfolding(crate::specs::Grammar::input_line))]
     fn input_line(
-        mut self,
+        self,
         alloc: Global,
         at: u32,
         kind: InputKind,
@@ -190,8 +259,25 @@ impl Draft {
         if !self.is_new(name) {
             return Err(unknown_name(at));
         }
+        Ok(self.with_input(alloc, at, kind, name)?)
+    }
+
+    /// The draft with one more input before all steps, whose name is known to be right.
+    pub fn with_input(
+        mut self,
+        alloc: Global,
+        at: u32,
+        kind: InputKind,
+        name: &[u8],
+    ) -> Result<Draft, AllocError>
+        requires kept { IsKept self at }
+        requires first { length self.steps.items ≡ 0 }
+        requires name { IsTrue (is_name name.now) }
+        ensures value { IfOk result (λ draft. draft_seen draft ≡ input_added (draft_seen self) at kind name.now) }
+        ensures kept { IfOk result (λ draft. IsKept draft (at + 1)) }
+    {
         if matches!(kind, InputKind::Cipher) {
-            self.parts.push(2)?;
+            self.shapes.push(Shape { parts: 2 })?;
         }
         self.inputs.push(Input {
             name: Name::new(alloc, name)?,
@@ -220,13 +306,7 @@ impl Draft {
     }
 
     #[tactic(auto, unfolding(crate::specs::Grammar::with_step))]
-    fn with_step(
-        mut self,
-        alloc: Global,
-        at: u32,
-        name: &[u8],
-        op: Op,
-    ) -> Result<Draft, ScriptFault>
+    fn with_step(self, alloc: Global, at: u32, name: &[u8], op: Op) -> Result<Draft, ScriptFault>
         requires kept { IsKept self at }
         requires name { IsTrue (is_name name.now) }
         ensures value { Gives draft_seen result (with_step (draft_seen self) at name.now op) }
@@ -235,8 +315,24 @@ impl Draft {
         if !self.has_shape(op) {
             return Err(ScriptFault::Bad(ScriptPlace::Shape(at)));
         }
-        let parts = self.parts_made(op);
-        self.parts.push(parts)?;
+        Ok(self.with_operation(alloc, at, name, op)?)
+    }
+
+    /// The draft with one more step, whose name and operation are known to be right.
+    pub fn with_operation(
+        mut self,
+        alloc: Global,
+        at: u32,
+        name: &[u8],
+        op: Op,
+    ) -> Result<Draft, AllocError>
+        requires kept { IsKept self at }
+        requires name { IsTrue (is_name name.now) }
+        ensures value { IfOk result (λ draft. draft_seen draft ≡ step_added (draft_seen self) at name.now op) }
+        ensures kept { IfOk result (λ draft. IsKept draft (at + 1)) }
+    {
+        let shape = self.shape_made(op);
+        self.shapes.push(shape)?;
         self.steps.push(Step {
             name: Name::new(alloc, name)?,
             op,

@@ -53,7 +53,7 @@ pub enum ScriptPlace {
     Name(u32),
     /// An operand doesn't have the parts that the operation takes.
     Shape(u32),
-    /// There are more than 1,048,576 bytes, 64 inputs or 4,096 steps.
+    /// There are more bytes, inputs or steps than `MAX_SCRIPT_BYTES`, `MAX_INPUTS` and `MAX_STEPS`.
     TooLong,
 }
 

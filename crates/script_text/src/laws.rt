@@ -1,10 +1,13 @@
 // What reading makes of printed scripts, and what is known of a text that was read.
-ghost use Rattle.std.specs.Prelude.{◌≡◌, ◌≢◌, ◌≤◌, ◌++◌, ◌∷◌, [], ℕ, List, length, Ok, Err};
+ghost use Rattle.std.specs.Prelude.{◌≡◌, ◌≢◌, ◌<◌, ◌≤◌, ◌++◌, ◌∷◌, ◌^◌, [], ℕ, List, All, length, Ok, Err};
 ghost use Rattle.line_text.specs.Lines.{lines_of};
 ghost use Rattle.script_text.specs.declared.faults.ScriptPlace.{ScriptPlace};
 ghost use Rattle.script_text.specs.Scripts.{Script, IsSound};
+ghost use Rattle.script_text.specs.Limits.{max_script_bytes};
 ghost use Rattle.script_text.specs.Printed.{printed_script, renumbered};
 ghost use Rattle.script_text.specs.Grammar.{script_of};
+ghost use Rattle.script_text.specs.Reading.{values_of};
+ghost use Rattle.script_text.specs.Values.{printed_values};
 ghost use Rattle.script_text.specs.Counted.{words_in, words_until, numbers_in, kept_lines, IsInLine};
 
 /// A printed script is read as the same script, but for its lines: they are those of the printed
@@ -18,7 +21,7 @@ pub fn law_of_printing()
 /// over have the words of the script's print. The first of them is that of the set and the last
 /// that of the output; those between are the lines that the inputs and then the steps keep.
 ///
-/// Conversely a text of at most 1,048,576 bytes with the words of a sound script's print is read as
+/// Conversely a text of at most `MAX_SCRIPT_BYTES` bytes with the words of a sound script's print is read as
 /// that script, but for its lines. So a text is a script exactly where its lines that aren't
 /// passed over are the words of a sound script's print, and nobody needs to follow the grammar to
 /// know what a script means.
@@ -28,7 +31,7 @@ pub fn law_of_reading()
     ensures lines { (text : List ℕ) (script : Script) → script_of text ≡ Ok script
         → (first : ℕ) × (last : ℕ) × (numbers_in text ≡ first ∷ kept_lines script ++ last ∷ []) }
     ensures only { (text : List ℕ) (script : Script) → IsSound script
-        → length text ≤ 1048576 → words_in text ≡ words_in (printed_script script)
+        → length text ≤ max_script_bytes → words_in text ≡ words_in (printed_script script)
         → (read : Script) × (script_of text ≡ Ok read) × (renumbered read ≡ renumbered script) }
 {}
 
@@ -40,4 +43,11 @@ pub fn law_of_faults()
         → IsInLine n place → n ≤ length (lines_of text) → (script : Script) → IsSound script
         → (rest : List (List (List ℕ)))
         → words_in (printed_script script) ≢ words_until n text ++ rest }
+{}
+
+/// A printed list of values is read as the same values.
+pub fn law_of_printed_values()
+    ensures { (values : List ℕ) (t : ℕ) → length values ≤ 65536 → t ≤ 2 ^ 32
+        → All (λ value. value < t) values
+        → values_of (printed_values values) (length values) t ≡ Ok values }
 {}

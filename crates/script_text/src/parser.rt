@@ -3,7 +3,8 @@ ghost use Rattle.std.specs.Prelude.{◌≡◌, ◌+◌, ◌<◌, ◌≤◌, [], 
 ghost use Rattle.std.specs.List.{count_by};
 ghost use Rattle.std.specs.Option.{option_map};
 ghost use Rattle.script_text.specs.Drafts.{draft_seen, Gives, IsKept};
-ghost use Rattle.script_text.specs.Scripts.{IsSound, parts_of};
+ghost use Rattle.script_text.specs.Scripts.{IsSound, shapes_of};
+ghost use Rattle.script_text.specs.Limits.{max_script_bytes};
 ghost use Rattle.line_text.specs.Lines.{Line, words_of, counted_lines, counted_from};
 ghost use Rattle.script_text.specs.Grammar.{is_step_line, is_input_line, is_too_long, after_line, after_lines, script_of};
 ghost use Rattle.script_text.specs.declared.faults.ScriptPlace.{ScriptPlace};
@@ -11,16 +12,11 @@ ghost use Rattle.script_text.specs.declared.faults.ScriptFault.TheVariants as fa
 
 use crate::draft::{Draft, syntax};
 use crate::faults::{ScriptFault, ScriptPlace};
+use crate::limits::{MAX_INPUTS, MAX_SCRIPT_BYTES, MAX_STEPS};
 use crate::script::Script;
 use crate::words::{is_input_line, is_step_line};
 use line_text::{count_lines, is_passed_over};
 use std::alloc::Global;
-
-const MOST_BYTES: usize = 1_048_576;
-
-const MOST_INPUTS: usize = 64;
-
-const MOST_STEPS: usize = 4096;
 
 /// How many lines count as inputs.
 fn count_inputs(text: &[u8]) -> usize
@@ -43,7 +39,9 @@ fn count_steps(text: &[u8]) -> usize
 fn is_too_long(text: &[u8]) -> bool
     ensures { result ≡ is_too_long text.now }
 {
-    text.len() > MOST_BYTES || count_inputs(text) > MOST_INPUTS || count_steps(text) > MOST_STEPS
+    text.len() > MAX_SCRIPT_BYTES
+        || count_inputs(text) > MAX_INPUTS
+        || count_steps(text) > MAX_STEPS
 }
 
 /// The draft after one more line that isn't passed over.
@@ -91,9 +89,9 @@ fn after_piece(
 
 /// What all lines of a text give.
 fn read_lines(alloc: Global, text: &[u8]) -> Result<Option<Draft>, ScriptFault>
-    requires { length text.now ≤ MOST_BYTES }
+    requires { length text.now ≤ max_script_bytes }
     ensures value { Gives (option_map draft_seen) result (after_lines None (counted_lines text.now)) }
-    ensures parts { IfOk result (λ draft. IfSome draft (λ draft. draft.parts.items ≡ parts_of draft.inputs.items draft.steps.items)) }
+    ensures shapes { IfOk result (λ draft. IfSome draft (λ draft. draft.shapes.items ≡ shapes_of draft.inputs.items draft.steps.items)) }
 {
     let mut draft = None;
     let mut at = 1;
@@ -123,7 +121,7 @@ pub fn parse(alloc: Global, text: &[u8]) -> Result<Script, ScriptFault>
         set,
         inputs,
         steps,
-        parts,
+        shapes,
         output,
     } = draft;
     match output {
@@ -131,7 +129,7 @@ pub fn parse(alloc: Global, text: &[u8]) -> Result<Script, ScriptFault>
             set,
             inputs,
             steps,
-            parts,
+            shapes,
             output,
         }),
         None => Err(syntax(missed)),

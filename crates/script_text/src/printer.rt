@@ -3,8 +3,8 @@ ghost use Rattle.std.specs.Prelude.{◌≡◌, ◌++◌, ◌∷◌, [], IfOk, On
 ghost use Rattle.std.specs.List.{flat_map};
 ghost use Rattle.set_table.specs.Sets.{name_of};
 ghost use Rattle.script_text.specs.Keywords.{keyword_text};
-ghost use Rattle.script_text.specs.Scripts.{names_of};
-ghost use Rattle.script_text.specs.Printed.{printed_line, printed_script, printed_input, printed_step, kind_text, keyword_of, first_operand, second_words, register_names, plain_names};
+ghost use Rattle.script_text.specs.Scripts.{names_of, register_names};
+ghost use Rattle.script_text.specs.Printed.{printed_line, printed_script, printed_input, printed_step, kind_text, keyword_of, first_operand, second_words, plain_names};
 
 use crate::keyword::Keyword;
 use crate::script::{Input, InputKind, Op, Script, Step};
@@ -22,7 +22,7 @@ pub fn print(alloc: Global, script: &Script) -> Result<Vec<u8>, AllocError>
     push_inputs(&mut text, script)?;
     push_steps(&mut text, script)?;
     text.extend_from_slice(b"output")?;
-    push_word(&mut text, script.register_name(script.output))?;
+    push_word(&mut text, script.register_name(script.output as usize))?;
     text.push(b'\n')?;
     Ok(text)
 }
@@ -76,7 +76,7 @@ fn push_step(text: &mut Vec<u8>, script: &Script, step: &Step) -> Result<(), All
     text.extend_from_slice(step.name.as_str().as_bytes())?;
     push_word(text, "=")?;
     push_word(text, keyword_of(step.op).text())?;
-    push_word(text, script.register_name(first_operand(step.op)))?;
+    push_word(text, script.register_name(first_operand(step.op) as usize))?;
     push_second(text, script, step.op)?;
     text.push(b'\n')?;
     Ok(())
@@ -86,7 +86,9 @@ fn push_second(text: &mut Vec<u8>, script: &Script, op: Op) -> Result<(), AllocE
     ensures { OnOk result (text.new.items ≡ text.old.items ++ flat_map (λ word. 32 ∷ word) (second_words (register_names script.now) (plain_names script.now) op)) }
 {
     match op {
-        Op::Add(_, b) | Op::Sub(_, b) | Op::Mul(_, b) => push_word(text, script.register_name(b)),
+        Op::Add(_, b) | Op::Sub(_, b) | Op::Mul(_, b) => {
+            push_word(text, script.register_name(b as usize))
+        }
         Op::AddPlain(_, p) | Op::SubPlain(_, p) | Op::MulPlain(_, p) => {
             push_word(text, script.plain_name(p))
         }

@@ -6,10 +6,9 @@ ghost use Rattle.script_text.specs.declared.faults.ValuePlace.{ValuePlace};
 ghost use Rattle.script_text.specs.declared.faults.ValueFault.TheVariants as fault;
 
 use crate::faults::{ValueFault, ValuePlace};
+use crate::limits::MAX_VALUES_BYTES;
 use line_text::{all_digits, read_number};
 use std::alloc::{AllocError, Global};
-
-const MOST_BYTES: usize = 4_194_304;
 
 const MOST_DIGITS: usize = 20;
 
@@ -20,7 +19,7 @@ pub fn read_values(alloc: Global, text: &[u8], n: usize, t: u64) -> Result<Vec<u
     ensures values { IfOk result (λ values. values_of text.now n t ≡ Ok values.items) }
     ensures bad { (place : ValuePlace) → result ≡ Err (fault.Bad place) → values_of text.now n t ≡ Err place }
 {
-    if text.len() > MOST_BYTES {
+    if text.len() > MAX_VALUES_BYTES {
         return Err(ValueFault::Bad(ValuePlace::TooLong));
     }
     if let Some(at) = first_bad(text) {
@@ -177,7 +176,7 @@ mod tests {
 
     #[test]
     fn refuses_a_long_text(rt: HostRuntime) -> Result<(), Fail> {
-        let mut text = vec![in rt.alloc(); b'\n'; 4_194_304]?;
+        let mut text = vec![in rt.alloc(); b'\n'; MAX_VALUES_BYTES]?;
         assert_eq!(rt;
             read_values(rt.alloc(), &text, 1, 257)?.as_slice(),
             [0].as_slice()

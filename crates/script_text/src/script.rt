@@ -1,7 +1,7 @@
 // Scripts that were read.
 ghost use Rattle.std.specs.Prelude.{◌≡◌, ◌<◌, ◌+◌, [], slice_index_or, ℕ, length, slice_get, slice_index, IfSome};
-ghost use Rattle.script_text.specs.Scripts.{IsSound, parts_of, cipher_inputs};
-ghost use Rattle.script_text.specs.Printed.{register_names, plain_names};
+ghost use Rattle.script_text.specs.Scripts.{IsSound, shape_at, shapes_of, cipher_inputs, register_names, register_lines, registers_of};
+ghost use Rattle.script_text.specs.Printed.{plain_names};
 
 use line_text::Name;
 use set_table::SetName;
@@ -32,6 +32,13 @@ pub enum Op {
     Swap(u32),
 }
 
+/// What is known of a cipher before it is made.
+#[derive(Clone, Copy, Debug, PartialEq, Eq)]
+pub struct Shape {
+    /// How many parts it has: 2, or 3 after a product.
+    pub parts: u8,
+}
+
 /// An input with its line in the text, counted from 1.
 #[derive(Drop)]
 pub struct Input {
@@ -56,21 +63,21 @@ pub struct Script {
     pub(crate) set: SetName,
     pub(crate) inputs: Vec<Input>,
     pub(crate) steps: Vec<Step>,
-    /// The parts of each register.
-    pub(crate) parts: Vec<u8>,
+    /// The shape of each register.
+    pub(crate) shapes: Vec<Shape>,
     pub(crate) output: u32,
 }
 
 impl Model for Script {
     ghost use Rattle.std.specs.Prelude.{◌≡◌};
     ghost use Rattle.script_text.specs.Scripts as scripts;
-    ghost use Rattle.script_text.specs.Scripts.{IsSound, parts_of};
+    ghost use Rattle.script_text.specs.Scripts.{IsSound, shapes_of};
 
     ghost Value = { scripts.Script };
 
     ghost view = { λ s. record { set = s.set; inputs = s.inputs.items; steps = s.steps.items; output = s.output } };
 
-    ghost invariant = { λ s. IsSound (record { set = s.set; inputs = s.inputs.items; steps = s.steps.items; output = s.output }) × (s.parts.items ≡ parts_of s.inputs.items s.steps.items) };
+    ghost invariant = { λ s. IsSound (record { set = s.set; inputs = s.inputs.items; steps = s.steps.items; output = s.output }) × (s.shapes.items ≡ shapes_of s.inputs.items s.steps.items) };
 }
 
 impl Script {
@@ -158,17 +165,45 @@ impl Script {
         self.output
     }
 
-    /// How many parts the cipher in this register has, 2 or 3.
-    pub fn parts(&self, register: u32) -> u8
-        requires { register < length (cipher_inputs self.now.inputs) + length self.now.steps }
-        ensures { result ≡ slice_index (parts_of self.now.inputs self.now.steps) register }
+    /// The number of cipher inputs, which are the first registers.
+    pub fn ciphers(&self) -> usize
+        ensures { result ≡ length (cipher_inputs self.now.inputs) }
     {
-        self.parts[register as usize]
+        self.shapes.len() - self.steps.len()
     }
 
-    /// The name of a register.
-    pub(crate) fn register_name(&self, register: u32) -> &str
-        ensures { result.now ≡ slice_index_or (register_names self.now) register [] }
+    /// The shape of the cipher in this register.
+    pub fn register_shape(&self, register: usize) -> Shape
+        requires { register < length (cipher_inputs self.now.inputs) + length self.now.steps }
+        ensures listed { IfSome (slice_get (registers_of self.now) register) (λ listed. result ≡ listed.shape) }
+        ensures value { result ≡ shape_at (shapes_of self.now.inputs self.now.steps) register }
+    {
+        self.shapes[register]
+    }
+
+    /// The line of the text that defines this register, counted from 1.
+    pub fn register_line(&self, register: usize) -> u32
+        requires { register < length (cipher_inputs self.now.inputs) + length self.now.steps }
+        ensures listed { IfSome (slice_get (registers_of self.now) register) (λ listed. result ≡ listed.line) }
+        ensures value { result ≡ slice_index (register_lines self.now) register }
+    {
+        let line = self
+            .inputs
+            .iter()
+            .filter(|input| matches!(input.kind, InputKind::Cipher))
+            .map(|input| input.line)
+            .chain(self.steps.iter().map(|step| step.line))
+            .nth(register);
+        match line {
+            Some(line) => line,
+            None => 0,
+        }
+    }
+
+    /// The name of this register, and an empty text where there is none.
+    pub fn register_name(&self, register: usize) -> &str
+        ensures listed { IfSome (slice_get (registers_of self.now) register) (λ listed. result.now ≡ listed.name) }
+        ensures value { result.now ≡ slice_index_or (register_names self.now) register [] }
     {
         let name = self
             .inputs
@@ -176,7 +211,7 @@ impl Script {
             .filter(|input| matches!(input.kind, InputKind::Cipher))
             .map(|input| &input.name)
             .chain(self.steps.iter().map(|step| &step.name))
-            .nth(register as usize);
+            .nth(register);
         match name {
             Some(name) => name.as_str(),
             None => "",

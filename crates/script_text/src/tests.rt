@@ -1,7 +1,11 @@
 // Scripts that are read, refused and evaluated.
 ghost use Rattle.std.specs.Prelude.{ℕ, ◌<◌, IsTrue, length, slice_index};
 
-use crate::{ScriptFault, ScriptPlace, evaluate, parse, print};
+use crate::{
+    InputKind, MAX_INPUTS, MAX_SCRIPT_BYTES, MAX_STEPS, MakeFault, Op, Refusal, ScriptFault,
+    ScriptMaker, ScriptPlace, evaluate, parse, print,
+};
+use set_table::SetName;
 use std::alloc::Global;
 use std::process::Abort;
 use std::test::Fail;
@@ -237,7 +241,11 @@ fn refuses_by_order(rt: HostRuntime) -> Result<(), Fail> {
 #[test]
 fn counts_inputs_and_steps(rt: HostRuntime) -> Result<(), Fail> {
     let too_long = Some(ScriptFault::Bad(ScriptPlace::TooLong));
-    let many = [(63, 4096, None), (64, 0, too_long), (0, 4097, too_long)];
+    let many = [
+        (MAX_INPUTS - 1, MAX_STEPS, None),
+        (MAX_INPUTS, 0, too_long),
+        (0, MAX_STEPS + 1, too_long),
+    ];
     for (inputs, steps, fault) in many {
         let mut text = b"set toy16\ncipher a\n".to_vec(rt.alloc())?;
         for i in 0..inputs {
@@ -262,7 +270,7 @@ fn counts_inputs_and_steps(rt: HostRuntime) -> Result<(), Fail> {
 fn counts_bytes(rt: HostRuntime) -> Result<(), Fail> {
     let mut text = HEAD.to_vec(rt.alloc())?;
     text.extend_from_slice(b"output a\n#")?;
-    text.resize(1_048_576, b'x')?;
+    text.resize(MAX_SCRIPT_BYTES, b'x')?;
     assert_eq!(rt; parse(rt.alloc(), &text).err(), None);
     text.push(b'x')?;
     let too_long = ScriptFault::Bad(ScriptPlace::TooLong);
@@ -278,6 +286,56 @@ fn prints_in_one_form(rt: HostRuntime) -> Result<(), Fail> {
     let printed =
         b"set toy16\ncipher a\nplain p\nb = mul a a\nc = relin b\nd = addp c p\ne = mulk d 0\nf = turn e 7\noutput f\n";
     assert_eq!(rt; print(rt.alloc(), &script)?.as_slice(), printed.as_slice());
+    Ok(())
+}
+
+/// A cipher `a`, a plain input `p` and the product `b` of `a` with itself.
+fn half_made(alloc: Global) -> Result<ScriptMaker, MakeFault> {
+    ScriptMaker::new(alloc, SetName::Toy16)
+        .input(alloc, InputKind::Cipher, "a")?
+        .input(alloc, InputKind::Plain, "p")?
+        .step(alloc, "b", Op::Mul(0, 0))
+}
+
+#[test]
+fn makes_a_script(rt: HostRuntime) -> Result<(), Fail> {
+    let alloc = rt.alloc();
+    let script = half_made(alloc)?
+        .step(alloc, "c", Op::Relin(1))?
+        .step(alloc, "d", Op::AddPlain(2, 0))?
+        .step(alloc, "e", Op::Turn(3, 7))?
+        .output(4)?;
+    let printed =
+        b"set toy16\ncipher a\nplain p\nb = mul a a\nc = relin b\nd = addp c p\ne = turn d 7\noutput e\n";
+    assert_eq!(rt; print(alloc, &script)?.as_slice(), printed.as_slice());
+    assert_eq!(rt; script.register_name(3), "d");
+    Ok(())
+}
+
+#[test]
+fn maker_refuses_steps(rt: HostRuntime) -> Result<(), Fail> {
+    let rows = [
+        ("key", Op::Neg(0), Refusal::NoName),
+        ("p", Op::Neg(0), Refusal::Taken),
+        ("c", Op::Neg(2), Refusal::Missing),
+        ("c", Op::AddPlain(0, 1), Refusal::Missing),
+        ("c", Op::MulConst(0, 257), Refusal::OutOfRange),
+        ("c", Op::Turn(0, 8), Refusal::OutOfRange),
+        ("c", Op::Relin(0), Refusal::Shape),
+    ];
+    for (i, (name, op, refusal)) in rows.iter().enumerate() {
+        let fault = half_made(rt.alloc())?.step(rt.alloc(), name, *op).err();
+        assert_eq!(rt; fault, Some(MakeFault::Refused(*refusal)), "in row {i}");
+    }
+    Ok(())
+}
+
+#[test]
+fn refuses_a_late_input_and_a_missing_output(rt: HostRuntime) -> Result<(), Fail> {
+    let late = half_made(rt.alloc())?.input(rt.alloc(), InputKind::Cipher, "x");
+    assert_eq!(rt; late.err(), Some(MakeFault::Refused(Refusal::TooLate)));
+    let missing = half_made(rt.alloc())?.output(2);
+    assert_eq!(rt; missing.err(), Some(Refusal::Missing));
     Ok(())
 }
 

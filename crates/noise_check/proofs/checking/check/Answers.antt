@@ -21,5 +21,5 @@ pub returns-in-Some : goal.returns-in-Some
 returns-in-Some c =
     too_noisy_is c.args.script.now (numbers c.args.inputs.now) _ c.in-Some.register _ _ _ c.in_ok-bounds.ensures.canonical c.in_ok-bounds.ensures.values
     (first_above_is c.args.script.now _ _ _ _ _ (sym c.in-Some.is ∙ c.first_above.ensures) c.limit-limit.ensures.value c.set.ensures.value c.deref.ensures.value)
-    c.register_line.ensures c.index.ensures c.limit-limit.ensures.canonical
+    c.register_line.ensures.value c.index.ensures c.limit-limit.ensures.canonical
     (c.limit-limit.ensures.value ∙ ap (λ set. limit (data_of set)) c.set.ensures.value)

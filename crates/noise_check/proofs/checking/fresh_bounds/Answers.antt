@@ -10,6 +10,6 @@ use Rattle.noise_check.proofs.checking.fresh_bounds.Goals as goal
 pub returns-clause-values : goal.returns-clause-values
 returns-clause-values c =
     ap numbers (c.in_ok-vec.ensures.items_if_clones_equal (λ y same. same))
-    ∙ numbers-replicate c.cipher_count.result c.fresh.result
-    ∙ ap₂ replicate c.cipher_count.ensures
+    ∙ numbers-replicate c.ciphers.result c.fresh.result
+    ∙ ap₂ replicate c.ciphers.ensures
     (c.fresh.ensures.value ∙ ap (λ set. up (fresh_bound (degree_of set) (plain_of set) greatest_error)) c.set.ensures.value)

@@ -2,7 +2,7 @@ use Rattle.std.proofs.Common.{◌*◌, ◌/◌, ◌+◌, arith, ap, ◌∙◌, s
 use Rattle.std.proofs.lemmas.List.{drop_all}
 use Rattle.set_table.specs.Sets.{data_of}
 use Rattle.bound_num.specs.Bound.{bound_value, down}
-use Rattle.bfv_model.proofs.Rules.{data_count_pos, data_count_lt}
+use Rattle.bfv_model.proofs.Sets.{data_count_pos, data_count_lt}
 use Rattle.noise_check.proofs.SetNumbers.{rounded_product, fold-drop, limit-rounded_product}
 use Rattle.noise_check.proofs.sets.limit.Goals as goal
 

@@ -22,7 +22,7 @@ step-requires-in-loop-i g c =
     let within : IsWithin (plain_of c.args.ctx.now.set) (length (plain_inputs script.inputs)) (input_count script + i) op
     = within_at script i op _ _ _ c.output-output.ensures.sound below c.step.ensures (ap plain_of (sym c.requires.same_set)) refl refl in
     let ran = c.loop-i.invariant.ran in
-    let here : c.cipher_count-inputs.result + i ≡ input_count script + i = ap (λ (k : ℕ). k + i) c.cipher_count-inputs.ensures in (
+    let here : c.ciphers-inputs.result + i ≡ input_count script + i = ap (λ (k : ℕ). k + i) c.ciphers-inputs.ensures in (
       search rules,
       (
         search rules,
@@ -37,9 +37,9 @@ step-requires-in-loop-i g c =
                 (
                   within_more _ _ _ _ _ op c.requires.plain_count (omega arith) within,
                   (
-                    subst (λ (n : ℕ). slice_index c.args.plan.now (c.cipher_count-inputs.result + i) < n) (sym ran.size) (planned.within (c.cipher_count-inputs.result + i) (omega arith)),
+                    subst (λ (n : ℕ). slice_index c.args.plan.now (c.ciphers-inputs.result + i) < n) (sym ran.size) (planned.within (c.ciphers-inputs.result + i) (omega arith)),
                     (
-                      subst (λ (n : ℕ). OnOperands op (λ r. (slice_index c.args.plan.now r < n) × (slice_index c.args.plan.now r ≢ slice_index c.args.plan.now (c.cipher_count-inputs.result + i)))) (sym ran.size)
+                      subst (λ (n : ℕ). OnOperands op (λ r. (slice_index c.args.plan.now r < n) × (slice_index c.args.plan.now r ≢ slice_index c.args.plan.now (c.ciphers-inputs.result + i)))) (sym ran.size)
                           (operands_there script c.args.plan.now (length c.args.ciphers.now) i op found.0 _ _ _ planned below found.1 found.2 within (ap (slice_index c.args.plan.now) here)),
                       (
                         ran.of_context,
@@ -71,7 +71,7 @@ loop-i-preserved g c =
     record {
       ran = subst (λ (k : ℕ). Ran g.row.N c.args.ctx.now no_digits script c.args.plan.now c.args.plains.now c.args.ciphers.now k c.step-in-loop-i.new.ciphers) one
           (ran_next g.row.N c.args.ctx.now no_digits script c.args.plan.now c.args.plains.now c.args.ciphers.now i c.loop-i.ciphers c.step-in-loop-i.new.ciphers op found.0 _ c.requires.same_set c.requires.plan below found.1 found.2 within
-          (ap (slice_index c.args.plan.now) (ap (λ (k : ℕ). k + i) c.cipher_count-inputs.ensures)) c.step-in-loop-i.ensures.done c.loop-i.invariant.ran);
+          (ap (slice_index c.args.plan.now) (ap (λ (k : ℕ). k + i) c.ciphers-inputs.ensures)) c.step-in-loop-i.ensures.done c.loop-i.invariant.ran);
       scratch_rows = c.step-in-loop-i.ensures.scratch_rows ∙ c.loop-i.invariant.scratch_rows;
     }
 

@@ -33,7 +33,7 @@ fill_input-requires g c = (
 pub fill_plain_input-requires : goal.fill_plain_input-requires
 fill_plain_input-requires g c =
     let script = c.in_ok-script.script in
-    let two : c.cipher_count.result ≡ 2 = search rules in
+    let two : c.ciphers.result ≡ 2 = search rules in
     let three : c.inputs.result ≡ 3 = search rules in
     let counted = inputs_counted script.inputs in
     let plains : length c.fill_input-2.new.space.plains ≡ length c.in_ok-space.space.plains = ap length (c.fill_input-2.ensures.plains ∙ c.fill_input.ensures.plains) in (
@@ -43,7 +43,7 @@ fill_plain_input-requires g c =
         (
           search rules,
           (
-            omega (arith, counted, two, three, plains, c.cipher_count.ensures, c.inputs.ensures.value, c.in_ok-space.ensures.made.plains),
+            omega (arith, counted, two, three, plains, c.ciphers.ensures, c.inputs.ensures.value, c.in_ok-space.ensures.made.plains),
             (
               c.fill_input-2.ensures.of_context,
               c.fill_input-2.ensures.parts,
@@ -57,10 +57,10 @@ pub check_result-requires : goal.check_result-requires
 check_result-requires g c =
     let script = c.in_ok-script.script in
     let ctx = c.in_ok-ctx.ctx in
-    let two : c.cipher_count.result ≡ 2 = search rules in
+    let two : c.ciphers.result ≡ 2 = search rules in
     let three : c.inputs.result ≡ 3 = search rules in
     let counted = inputs_counted script.inputs in
-    let one : length (plain_inputs script.inputs) ≡ 1 = omega (arith, counted, two, three, c.cipher_count.ensures, c.inputs.ensures.value) in
+    let one : length (plain_inputs script.inputs) ≡ 1 = omega (arith, counted, two, three, c.ciphers.ensures, c.inputs.ensures.value) in
     let one_filled = c.fill_input.ensures.shape in
     let two_filled = c.fill_input-2.ensures.shape in
     let filled = c.fill_plain_input.ensures.shape in

@@ -3,7 +3,7 @@ use Rattle.std.specs.Prelude.{IfSome}
 use Rattle.std.specs.Option.{option_map}
 use Rattle.script_text.specs.declared.draft.Draft.{Draft}
 use Rattle.script_text.specs.Drafts.{draft_seen}
-use Rattle.script_text.specs.Scripts.{parts_of}
+use Rattle.script_text.specs.Scripts.{shapes_of}
 use Rattle.line_text.proofs.Pieces.{lines_few}
 use Rattle.script_text.proofs.Sound.{draft_sound, bytes_few}
 use Rattle.script_text.proofs.parser.parse.Goals as goal
@@ -24,7 +24,7 @@ pub invariant_of-result : goal.invariant_of-result
 invariant_of-result c = (
   draft_sound c.args.text.now (draft_seen c.in-Some.draft) c.in-Some-output.output (sym c.is_too_long.ensures ∙ c.if-is_too_long.false)
       (c.in_ok-draft.ensures.value ∙ ap (λ (o : Option Draft). Ok (option_map draft_seen o)) c.in-Some.is) c.in-Some-output.is,
-  subst (λ (o : Option Draft). IfSome o (λ draft. draft.parts.items ≡ parts_of draft.inputs.items draft.steps.items)) c.in-Some.is c.in_ok-draft.ensures.parts,
+  subst (λ (o : Option Draft). IfSome o (λ draft. draft.shapes.items ≡ shapes_of draft.inputs.items draft.steps.items)) c.in-Some.is c.in_ok-draft.ensures.shapes,
 )
 
 pub returns-in-Some-output-clause-sound : goal.returns-in-Some-output-clause-sound

@@ -1,6 +1,7 @@
 use Rattle.std.proofs.Common.{◌≡◌, ◌++◌, take}
 use Rattle.std.specs.List.{flat_map}
-use Rattle.script_text.specs.Printed.{printed_step, register_names, plain_names}
+use Rattle.script_text.specs.Scripts.{register_names}
+use Rattle.script_text.specs.Printed.{printed_step, plain_names}
 use Rattle.script_text.proofs.printer.push_steps.Given as goal
 
 abbrev pub invariant-loop-i : goal.invariant-loop-i
