@@ -1,9 +1,5 @@
-pub mod Bytes
-pub mod Words
-pub mod Heads
 pub mod Limits
-pub mod Rules
-pub mod Files
+pub mod Sets
 pub mod Noise
 pub mod Rounding
 pub mod Ciphers
@@ -13,7 +9,6 @@ pub mod SlotLaws
 pub mod SlotLists
 pub mod SlotPlaces
 pub mod SlotSets
-pub mod WorkedRows
 pub mod FreshNoise
 pub mod LinearOperations
 pub mod MontgomeryLift
@@ -33,4 +28,5 @@ pub mod DrawnKeys
 pub mod DrawnDigits
 pub mod KeyRows
 pub mod SetKeys
-pub mod DrawnFiles
+pub mod ListedWords
+pub mod DrawnWords

@@ -1,7 +1,4 @@
-pub mod Bytes
 pub mod Limit
-pub mod FileText
-pub mod FileTests
 pub mod Slots
 pub mod Holds
 pub mod Conversions
@@ -9,5 +6,4 @@ pub mod Keys
 pub mod Plaintexts
 pub mod Drawn
 pub mod SwitchKeys
-pub mod DrawnFiles
 pub mod NoiseBounds

@@ -4,15 +4,11 @@
 
 pub mod cipher_laws;
 pub mod decryption_laws;
-pub mod file_kind;
-pub mod file_laws;
 pub mod key_laws;
 pub mod slot_laws;
 
 pub use cipher_laws::{law_of_plain_operations, law_of_products, law_of_sums};
 pub use decryption_laws::{law_of_residue_decryption, law_of_rounding};
-pub use file_kind::FileKind;
-pub use file_laws::law_of_files;
 pub use key_laws::{
     law_of_drawn_switches, law_of_fresh_ciphers, law_of_key_switching, law_of_roots,
     law_of_switched_ciphers,

@@ -1,6 +1,6 @@
 -- The contents of files that are written.
 use Rattle.std.proofs.Common.{◌≡◌, ◌⊎◌, ◌<◌, ◌≤◌, ◌+◌, ◌-◌, ◌*◌, ◌/◌, ◌%◌, ◌++◌, List, [], ◌∷◌, map, take, drop, length, length-take, length-drop, get_or, get_or-drop, ℕ, zero, suc, ℤ, pos, negsuc, nat_abs, refl, sym, ◌∙◌, ap, ap₂, subst, arith, append_assoc, mod-lt, lit<, ⊎_elim}
-use Rattle.std.specs.Prelude.{Option, None, Some, IsTrue, slice_index, slice_range, unwrap_or}
+use Rattle.std.specs.Prelude.{Option, None, Some, true, slice_index, slice_range, unwrap_or}
 use Rattle.std.specs.FinMap as map
 use Rattle.std.specs.Option.{ForSome}
 use Rattle.std.specs.List.{concat}
@@ -16,18 +16,18 @@ use Rattle.ring_law.specs.Polynomials.{AllWithin}
 use Rattle.ring_law.specs.Rows.{listed_polynomial, word_at}
 use Rattle.ring_law.proofs.Residues.{residue_lt}
 use Rattle.ring_law.proofs.Values.{get_or-values_below, length-values_below, values_below-get_or}
-use Rattle.bfv_model.specs.declared.file_kind.FileKind.{FileKind}
-use Rattle.bfv_model.specs.declared.file_kind.FileKind.TheVariants.{Secret}
-use Rattle.bfv_model.specs.Bytes.{word_bytes}
-use Rattle.bfv_model.specs.FileText.{KeepsRules, digested, file_text, head_text, row_count, row_moduli, word_modulus}
+use Rattle.file_model.specs.declared.file_kind.FileKind.{FileKind}
+use Rattle.file_model.specs.declared.file_kind.FileKind.TheVariants.{Secret}
+use Rattle.file_model.specs.Bytes.{word_bytes}
+use Rattle.file_model.specs.FileText.{KeepsRules, digested, file_text, head_text, row_count, row_moduli, word_modulus}
 use Rattle.bfv_model.specs.Holds.{listed_word, listed_words, secret_polynomial, ternary_coefficient}
-use Rattle.bfv_model.proofs.Rules.{degree_pos, data_count_pos}
-use Rattle.bfv_model.proofs.Words.{word_bytes-append, word_bytes-take-add}
+use Rattle.bfv_model.proofs.Sets.{degree_pos, data_count_pos}
+use Rattle.file_model.proofs.Words.{word_bytes-append, word_bytes-take-add}
 use Rattle.bfv_params.specs.Rows.{ReducedInTurn}
 use Rattle.cipher_files.specs.Contents.{IsFront, digit_words, key_words, part_words, secret_words}
-use Rattle.cipher_files.specs.Heads.{HeadKeepsRules, content_with, wants}
-use Rattle.cipher_files.specs.declared.head.Head.{Head}
-use Rattle.cipher_files.specs.declared.head.Wanted.TheVariants.{Key}
+use Rattle.file_model.specs.Heads.{HeadKeepsRules, content_with, wants}
+use Rattle.file_model.specs.declared.head.Head.{Head}
+use Rattle.file_model.specs.declared.head.Wanted.TheVariants.{Key}
 use Rattle.cipher_files.proofs.ListedWords.{length-listed_words, listed_words-add, listed_words_ext, listed_words_reduced}
 use Rattle.cipher_files.proofs.RowWords.{listed_words-rows, word_bytes-none}
 use Rattle.cipher_files.proofs.Tables.{key_table}
@@ -223,7 +223,7 @@ digit_reduced set put word rows size reduced same j r k part row place =
     (subst (λ (i : ℕ). word_at rows (j * count + r) k < slice_index (key_of set) i) (mod-mul-add j count r row) (reduced (j * count + r) inside k place))
 
 -- a head of a switching key states as many words as its digits have
-pub key_words-count : (head : Head) (word : ℕ → ℕ → ℕ → ℕ → ℕ) → HeadKeepsRules head → IsTrue (wants Key head.kind)
+pub key_words-count : (head : Head) (word : ℕ → ℕ → ℕ → ℕ → ℕ) → HeadKeepsRules head → wants Key head.kind ≡ true
     → length (key_words head.set word) ≡ head.words
 key_words-count head word rules is =
     let count = length (data_of head.set) in
@@ -232,7 +232,7 @@ key_words-count head word rules is =
     let same : 2 * count * (count + 1) * degree_of head.set ≡ count * 2 * (count + 1) * degree_of head.set = omega arith in
     length-listed_words (degree_of head.set) (count + 1) (count * 2) (λ part. word (part / 2) (part % 2)) ∙ sym (total ∙ same)
 
-pub key_keeps_rules : (head : Head) (word : ℕ → ℕ → ℕ → ℕ → ℕ) → HeadKeepsRules head → length head.id ≡ 16 → IsTrue (wants Key head.kind)
+pub key_keeps_rules : (head : Head) (word : ℕ → ℕ → ℕ → ℕ → ℕ) → HeadKeepsRules head → length head.id ≡ 16 → wants Key head.kind ≡ true
     → ((i j r k : ℕ) → i < length (data_of head.set) → j < 2 → r < length (data_of head.set) + 1 → k < degree_of head.set → word i j r k < slice_index (key_of head.set) r)
     → KeepsRules (content_with head (key_words head.set word))
 key_keeps_rules head word rules id is reduced =

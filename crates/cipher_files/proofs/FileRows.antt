@@ -12,17 +12,17 @@ use Rattle.ring_law.specs.Rows.{IsReduced, word_at}
 use Rattle.outer_io.specs.Store.{Files, file, contents}
 use Rattle.outer_io.specs.declared.faults.Damage.TheVariants.{Field, Length, Digest, NotReduced, Changed}
 use Rattle.bfv_params.specs.Rows.{ReducedInTurn, ZeroFrom}
-use Rattle.bfv_model.specs.Bytes.{bytes_from, number_from, words_from}
-use Rattle.bfv_model.specs.FileText.{FileContent, IsFile, row_count, row_moduli}
-use Rattle.bfv_model.specs.FileTests.{stated_count, content_at}
-use Rattle.bfv_model.proofs.Bytes.{number_from-bytes_from}
-use Rattle.bfv_model.proofs.Words.{get_or-words_from, length-words_from}
-use Rattle.bfv_model.proofs.Files.{file_is_read, file_length}
-use Rattle.cipher_files.specs.declared.head.Head.{Head}
-use Rattle.cipher_files.specs.declared.faults.FileFault.{FileFault}
-use Rattle.cipher_files.specs.declared.faults.FileFault.TheVariants.{Missing, Failed, Memory, NotOurs, Version, Kind, Damaged}
-use Rattle.cipher_files.specs.Heads.{content_with, IsHeadOf}
-use Rattle.cipher_files.specs.Reading.{IsStoreFault, IsSecondFault, FileTold}
+use Rattle.file_model.specs.Bytes.{bytes_from, number_from, words_from}
+use Rattle.file_model.specs.FileText.{FileContent, IsFile, row_count, row_moduli}
+use Rattle.file_model.specs.Fronts.{stated_count, content_at}
+use Rattle.file_model.proofs.Bytes.{number_from-bytes_from}
+use Rattle.file_model.proofs.Words.{get_or-words_from, length-words_from}
+use Rattle.file_model.proofs.Files.{file_is_read, file_length}
+use Rattle.file_model.specs.declared.head.Head.{Head}
+use Rattle.file_model.specs.declared.faults.FileFault.{FileFault}
+use Rattle.file_model.specs.declared.faults.FileFault.TheVariants.{Missing, Failed, Memory, NotOurs, Version, Kind, Damaged}
+use Rattle.file_model.specs.Heads.{content_with, IsHeadOf}
+use Rattle.file_model.specs.Reading.{IsStoreFault, IsSecondFault, FileTold}
 use Rattle.cipher_files.specs.SecondReading.{file_word, HoldsRow, HoldsRows}
 
 -- the first words are those of a file from a place on

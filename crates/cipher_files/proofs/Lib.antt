@@ -1,10 +1,3 @@
-pub mod Ranges
-pub mod Parts
-pub mod ScanFaults
-pub mod Sets
-pub mod Fronts
-pub mod Bodies
-pub mod Laws
 pub mod Tables
 pub mod FileRows
 pub mod ListedWords

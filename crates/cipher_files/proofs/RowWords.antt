@@ -8,9 +8,9 @@ use Rattle.std.proofs.lemmas.List.Folds.{concat-append}
 use Rattle.std.proofs.lemmas.Nat.{div-add-mod'}
 use Rattle.ring_law.specs.Rows.{word_at}
 use Rattle.ring_law.proofs.Values.{values_below-get_or}
-use Rattle.bfv_model.specs.Bytes.{word_bytes}
+use Rattle.file_model.specs.Bytes.{word_bytes}
 use Rattle.bfv_model.specs.Holds.{listed_word, listed_words}
-use Rattle.bfv_model.proofs.Words.{word_bytes-append}
+use Rattle.file_model.proofs.Words.{word_bytes-append}
 
 pub word_bytes-none : word_bytes [] ≡ []
 unfolding word_bytes

@@ -6,11 +6,11 @@ use Rattle.std.proofs.lemmas.Bool.{eqb-true, or_cases}
 use Rattle.set_table.specs.declared.SetName.{SetName}
 use Rattle.set_table.specs.declared.SetName.TheVariants.{One16, Toy16, S4096, S8192, S16384}
 use Rattle.set_table.specs.Sets.{data_of, key_of, special_of}
-use Rattle.bfv_model.specs.declared.file_kind.FileKind.{FileKind}
-use Rattle.bfv_model.specs.declared.file_kind.FileKind.TheVariants as kind
-use Rattle.bfv_model.specs.FileText.{parts_fit, set_fits, row_count, row_moduli}
-use Rattle.cipher_files.specs.declared.head.Wanted.TheVariants as wanted
-use Rattle.cipher_files.specs.Heads.{wants}
+use Rattle.file_model.specs.declared.file_kind.FileKind.{FileKind}
+use Rattle.file_model.specs.declared.file_kind.FileKind.TheVariants as kind
+use Rattle.file_model.specs.FileText.{parts_fit, set_fits, row_count, row_moduli}
+use Rattle.file_model.specs.declared.head.Wanted.TheVariants as wanted
+use Rattle.file_model.specs.Heads.{wants}
 
 -- the rows of each kind
 pub secret_rows : (k : FileKind) (set : SetName) (parts : ℕ) → wants wanted.Secret k ≡ true → (row_count k set parts ≡ 1) × (row_moduli k set ≡ 3 ∷ [])
@@ -56,7 +56,7 @@ pub record KeyTable (k : FileKind) (set : SetName) : Type 0 where
   pub count : length (key_of set) ≡ length (data_of set) + 1
   pub rows : (parts : ℕ) → row_count k set parts ≡ 2 * length (data_of set) * (length (data_of set) + 1)
 
-pub key_table : (k : FileKind) (set : SetName) → IsTrue (wants wanted.Key k) → IsTrue (set_fits k set) → KeyTable k set
+pub key_table : (k : FileKind) (set : SetName) → wants wanted.Key k ≡ true → IsTrue (set_fits k set) → KeyTable k set
 key_table kind.Secret set is fits = absurd (cc)
 key_table kind.PublicKey set is fits = absurd (cc)
 key_table (kind.SwitchKey key) set is fits = record { moduli = refl; count = length-key_of set fits; rows = λ parts. refl }

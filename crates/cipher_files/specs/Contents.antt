@@ -5,11 +5,11 @@ use Rattle.set_table.specs.Sets.{degree_of, data_of}
 use Rattle.ring_law.specs.Sums.{values_below}
 use Rattle.ring_law.specs.Residues.{residue}
 use Rattle.ring_law.specs.Rows.{listed_polynomial}
-use Rattle.bfv_model.specs.Bytes.{word_bytes}
-use Rattle.bfv_model.specs.FileText.{head_text}
+use Rattle.file_model.specs.Bytes.{word_bytes}
+use Rattle.file_model.specs.FileText.{head_text}
 use Rattle.bfv_model.specs.Holds.{listed_word, listed_words}
-use Rattle.cipher_files.specs.Heads.{content_with}
-use Rattle.cipher_files.specs.declared.head.Head.{Head}
+use Rattle.file_model.specs.Heads.{content_with}
+use Rattle.file_model.specs.declared.head.Head.{Head}
 
 -- the words of a secret: its coefficients modulo 3, so that 2 stands for -1
 abbrev pub secret_words : ℕ → List ℤ → List ℕ

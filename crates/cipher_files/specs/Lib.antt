@@ -1,9 +1,3 @@
-pub mod Heads
-pub mod Scan
-pub mod Reading
-pub mod Fronts
-pub mod Scanning
-pub mod ScanFaults
 pub mod SecondReading
 pub mod Contents
 pub mod Writing

@@ -1,12 +1,12 @@
 -- The words of a file that is read again.
 use Rattle.std.specs.Prelude.{◌≡◌, ◌⊎◌, ℕ, ◌+◌, ◌*◌, ◌%◌, ◌<◌, ◌≤◌, List, length, slice_index, Result, OnOk, IfErr}
 use Rattle.outer_io.specs.Store.{Files}
-use Rattle.bfv_model.specs.Bytes.{number_from}
-use Rattle.bfv_model.specs.FileText.{row_count, row_moduli}
-use Rattle.cipher_files.specs.Reading.{FileTold}
-use Rattle.cipher_files.specs.declared.head.Head.{Head}
-use Rattle.cipher_files.specs.declared.faults.FileFault.{FileFault}
-use Rattle.cipher_files.specs.declared.faults.FileFault.TheVariants.{Failed, Memory}
+use Rattle.file_model.specs.Bytes.{number_from}
+use Rattle.file_model.specs.FileText.{row_count, row_moduli}
+use Rattle.file_model.specs.Reading.{FileTold}
+use Rattle.file_model.specs.declared.head.Head.{Head}
+use Rattle.file_model.specs.declared.faults.FileFault.{FileFault}
+use Rattle.file_model.specs.declared.faults.FileFault.TheVariants.{Failed, Memory}
 
 -- word k of row i behind the head of a file, whose rows have n words each
 abbrev pub file_word : ℕ → List ℕ → ℕ → ℕ → ℕ

@@ -1,13 +1,13 @@
 -- What a writer of a switching key has written.
-use Rattle.std.specs.Prelude.{◌≡◌, ℕ, ◌+◌, ◌<◌, List, length, slice_index, Some, IsSome, IsTrue}
+use Rattle.std.specs.Prelude.{◌≡◌, ℕ, ◌+◌, ◌<◌, List, length, slice_index, Some, IsSome, true}
 use Rattle.std.specs.Option.{ForSome}
 use Rattle.sha2.specs.Hashers.{Holds256}
 use Rattle.outer_io.specs.Store.{StoreState}
 use Rattle.set_table.specs.Sets.{degree_of, data_of, key_of}
-use Rattle.cipher_files.specs.Heads.{HeadKeepsRules, wants}
+use Rattle.file_model.specs.Heads.{HeadKeepsRules, wants}
 use Rattle.cipher_files.specs.Contents.{digit_words, IsFront}
-use Rattle.cipher_files.specs.declared.head.Head.{Head}
-use Rattle.cipher_files.specs.declared.head.Wanted.TheVariants.{Key}
+use Rattle.file_model.specs.declared.head.Head.{Head}
+use Rattle.file_model.specs.declared.head.Wanted.TheVariants.{Key}
 use Rattle.cipher_files.specs.declared.key_writer.KeyWriter.{KeyWriter}
 
 -- the head of the file that is written
@@ -21,7 +21,7 @@ digits_put writer = writer.put
 -- A writer of a switching key may go on: a file is pending, and where files are told the writer has hashed its bytes.
 pub record IsWriting (writer : KeyWriter) (state : StoreState) : Type 0 where
   pub rules : HeadKeepsRules writer.head
-  pub is_key : IsTrue (wants Key writer.head.kind)
+  pub is_key : wants Key writer.head.kind ≡ true
   pub pending : IsSome state.pending
   pub hashed : ForSome state.files (λ _. Holds256 writer.hasher state.written)
 

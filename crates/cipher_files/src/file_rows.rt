@@ -3,18 +3,18 @@ ghost use Rattle.std.specs.Prelude.{◌≡◌, ℕ, ◌+◌, ◌*◌, ◌<◌, �
 ghost use Rattle.std.specs.Option.{ForSome};
 ghost use Rattle.ring_law.specs.Rows.{IsReduced};
 ghost use Rattle.outer_io.specs.Store.{OnlyReads};
-ghost use Rattle.bfv_model.specs.Bytes.{number_from};
-ghost use Rattle.cipher_files.specs.Reading.{FileCause, FileTold, IsSecondFault};
+ghost use Rattle.file_model.specs.Bytes.{number_from};
+ghost use Rattle.file_model.specs.Reading.{FileCause, FileTold, IsSecondFault};
 ghost use Rattle.cipher_files.specs.SecondReading.{file_word, HoldsRow};
 
 use crate::FileFault;
 use crate::file_part::read_again;
-use crate::layout::{HEAD_BYTES, PIECE_BYTES, PIECE_WORDS, WORD_BYTES};
 use byteorder::{ByteOrder, LittleEndian};
+use file_scan::{HEAD_BYTES, PIECE_BYTES, PIECE_WORDS, WORD_BYTES};
 use outer_io::{Damage, Store};
 
 /// Bytes as words of eight, the lowest first.
-#[tactic(auto, unfolding(bfv_model::specs::Bytes::number_from))]
+#[tactic(auto, unfolding(file_model::specs::Bytes::number_from))]
 fn decode(bytes: &[u8], out: &mut [u64])
     requires { length bytes.now ≡ 8 * length out.old }
     ensures { (k : ℕ) → k < length out.old → slice_index out.new k ≡ number_from (8 * k) 8 bytes.now }

@@ -1,20 +1,19 @@
 //! The bytes of heads.
 ghost use Rattle.std.specs.Prelude.{◌≡◌, ◌+◌, ◌++◌, ◌≤◌, ℕ, List, length, take};
-ghost use Rattle.bfv_model.specs.FileText.{head_text};
-ghost use Rattle.cipher_files.specs.Heads.{content_with};
+ghost use Rattle.file_model.specs.FileText.{head_text};
+ghost use Rattle.file_model.specs.Heads.{content_with};
 
 use crate::Head;
-use crate::field_rules::kind_number;
-use crate::layout::{FORMAT_NAME, HEAD_BYTES, VERSION};
+use file_scan::{FORMAT_NAME, HEAD_BYTES, VERSION};
 
 /// The 64 bytes of a head.
-#[tactic(auto, unfolding(bfv_model::specs::FileText::head_text))]
+#[tactic(auto, unfolding(file_model::specs::FileText::head_text))]
 pub fn head_bytes(head: &Head) -> [u8; HEAD_BYTES]
     ensures { (words : List ℕ) → length words ≡ head.now.words → result ≡ head_text (content_with head.now words) }
 {
     let numbers = [
         VERSION,
-        kind_number(head.kind),
+        head.kind.number(),
         head.set.number(),
         head.parts,
         0,

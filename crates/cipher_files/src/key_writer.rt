@@ -1,12 +1,12 @@
 //! Switching keys, written digit by digit.
-ghost use Rattle.std.specs.Prelude.{◌≡◌, ℕ, ◌+◌, ◌*◌, ◌<◌, List, length, None, IfOk, OnOk, OnErr, IsTrue};
+ghost use Rattle.std.specs.Prelude.{◌≡◌, ℕ, ◌+◌, ◌*◌, ◌<◌, List, length, None, IfOk, OnOk, OnErr, true};
 ghost use Rattle.outer_io.specs.Store.{OnlyWrites, with_file};
 ghost use Rattle.set_table.specs.Sets.{degree_of, data_of, key_of};
 ghost use Rattle.bfv_params.specs.Rows.{ReducedInTurn};
-ghost use Rattle.bfv_model.specs.FileText.{KeepsRules, file_text};
+ghost use Rattle.file_model.specs.FileText.{KeepsRules, file_text};
 ghost use Rattle.bfv_model.specs.Holds.{listed_word};
-ghost use Rattle.cipher_files.specs.declared.head.Wanted.TheVariants.{Key};
-ghost use Rattle.cipher_files.specs.Heads.{HeadKeepsRules, content_with, wants};
+ghost use Rattle.file_model.specs.declared.head.Wanted.TheVariants.{Key};
+ghost use Rattle.file_model.specs.Heads.{HeadKeepsRules, content_with, wants};
 ghost use Rattle.cipher_files.specs.Contents.{key_words};
 ghost use Rattle.cipher_files.specs.Writing.{head_of, digits_put, IsWriting, HasWritten};
 
@@ -30,7 +30,7 @@ impl KeyWriter {
     /// Begins the file of this name. What was pending is dropped.
     pub fn begin<S: Store>(store: &mut S, name: &str, head: &Head) -> Result<KeyWriter, StoreFault>
         requires rules { HeadKeepsRules head.now }
-        requires kind { IsTrue (wants Key head.now.kind) }
+        requires kind { wants Key head.now.kind ≡ true }
         ensures keeps { OnlyWrites (S.state store.old) (S.state store.new) result }
         ensures files { (S.state store.new).files ≡ (S.state store.old).files }
         ensures head { IfOk result (λ writer. head_of writer ≡ head.now) }

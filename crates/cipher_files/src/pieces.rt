@@ -6,15 +6,15 @@ ghost use Rattle.sha2.specs.Hashers.{Holds256};
 ghost use Rattle.outer_io.specs.Store.{OnlyWrites, with_file};
 ghost use Rattle.ring_law.specs.Residues.{residue};
 ghost use Rattle.ring_law.specs.Rows.{listed_polynomial};
-ghost use Rattle.bfv_model.specs.Bytes.{word_bytes};
-ghost use Rattle.bfv_model.specs.FileText.{digested, head_text};
-ghost use Rattle.cipher_files.specs.Heads.{content_with};
+ghost use Rattle.file_model.specs.Bytes.{word_bytes};
+ghost use Rattle.file_model.specs.FileText.{digested, head_text};
+ghost use Rattle.file_model.specs.Heads.{content_with};
 
 use crate::Head;
 use crate::head_bytes::head_bytes;
-use crate::layout::{PIECE_BYTES, PIECE_WORDS, WORD_BYTES};
 use crate::lengths::has_its_length;
 use byteorder::{ByteOrder, LittleEndian};
+use file_scan::{PIECE_BYTES, PIECE_WORDS, WORD_BYTES};
 use outer_io::{Store, StoreFault};
 use rns_poly::View;
 use sha2::{Digest, Sha256};
@@ -145,7 +145,7 @@ fn append_words<S: Store>(
 }
 
 /// Writes the bytes of words.
-#[tactic(auto, unfolding(bfv_model::specs::Bytes::word_bytes))]
+#[tactic(auto, unfolding(file_model::specs::Bytes::word_bytes))]
 fn encode(words: &[u64], bytes: &mut [u8])
     requires { length bytes.old ≡ 8 * length words.now }
     ensures { bytes.new ≡ word_bytes words.now }

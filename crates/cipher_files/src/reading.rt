@@ -5,19 +5,19 @@ ghost use Rattle.set_table.specs.Sets.{degree_of, data_of, key_of};
 ghost use Rattle.ring_law.specs.Polynomials.{AllWithin};
 ghost use Rattle.ring_law.specs.Rows.{IsReduced, listed_polynomial, word_at};
 ghost use Rattle.outer_io.specs.Store.{OnlyReads, file, contents};
-ghost use Rattle.bfv_model.specs.FileText.{FileContent, IsFile};
+ghost use Rattle.file_model.specs.FileText.{FileContent, IsFile};
 ghost use Rattle.bfv_model.specs.Holds.{listed_word, stored_word, secret_polynomial, ternary_coefficient};
 ghost use Rattle.bfv_model.specs.Keys.{stored_key_word};
-ghost use Rattle.cipher_files.specs.Heads.{wants, HeadKeepsRules, IsHeadOf};
-ghost use Rattle.cipher_files.specs.Reading.{FileCause, IsSecondFault};
+ghost use Rattle.file_model.specs.Heads.{wants, HeadKeepsRules, IsHeadOf};
+ghost use Rattle.file_model.specs.Reading.{FileCause, IsSecondFault};
 ghost use Rattle.cipher_files.specs.SecondReading.{file_word, HoldsRows, HoldsRowsOf, RowsTold, ReadsBack};
 ghost use Rattle.bfv_params.specs.Rows.{ReducedInTurn};
-ghost use Rattle.cipher_files.specs.declared.head.Wanted.TheVariants as wanted;
+ghost use Rattle.file_model.specs.declared.head.Wanted.TheVariants as wanted;
 
 use crate::file_rows::read_row;
-use crate::row_moduli::row_modulus;
 use crate::{FileFault, Head};
 use bfv_params::{Cipher, Public, Secret};
+use file_scan::row_modulus;
 use outer_io::Store;
 use rns_poly::ViewMut;
 

@@ -4,10 +4,10 @@ ghost use Rattle.outer_io.specs.Store.{OnlyWrites, with_file};
 ghost use Rattle.set_table.specs.Sets.{degree_of, data_of};
 ghost use Rattle.ring_law.specs.Residues.{residue};
 ghost use Rattle.ring_law.specs.Rows.{listed_polynomial};
-ghost use Rattle.bfv_model.specs.declared.file_kind.FileKind.TheVariants as kind;
-ghost use Rattle.bfv_model.specs.FileText.{KeepsRules, file_text};
+ghost use Rattle.file_model.specs.declared.file_kind.FileKind.TheVariants as kind;
+ghost use Rattle.file_model.specs.FileText.{KeepsRules, file_text};
 ghost use Rattle.bfv_model.specs.Holds.{listed_word, listed_words, secret_polynomial};
-ghost use Rattle.cipher_files.specs.Heads.{HeadKeepsRules, content_with};
+ghost use Rattle.file_model.specs.Heads.{HeadKeepsRules, content_with};
 ghost use Rattle.cipher_files.specs.Contents.{secret_words, part_words};
 
 use crate::Head;

@@ -2,9 +2,9 @@
 ghost use Rattle.std.specs.Prelude.{◌+◌, ◌<◌, ◌^◌};
 
 use crate::{FileFault, Head, read_cipher, read_digit, read_public, read_secret};
-use bfv_model::FileKind;
 use bfv_params::{Cipher, Context, Public, Secret};
 use bound_num::Bound;
+use file_model::FileKind;
 use outer_io::{Damage, MemStore};
 use rns_poly::PolyBuf;
 use set_table::{KeyKind, SetName};

@@ -1,13 +1,13 @@
 // Switching keys that are written. Their digests are those of the same files by another program.
-ghost use Rattle.std.specs.Prelude.{◌≡◌, ◌+◌, ◌*◌, length, IsTrue};
+ghost use Rattle.std.specs.Prelude.{◌≡◌, ◌+◌, ◌*◌, length, true};
 ghost use Rattle.set_table.specs.Sets.{data_of, degree_of, key_of};
 ghost use Rattle.bfv_params.specs.Rows.{ReducedInTurn};
-ghost use Rattle.cipher_files.specs.declared.head.Wanted.TheVariants.{Key};
-ghost use Rattle.cipher_files.specs.Heads.{HeadKeepsRules, wants};
+ghost use Rattle.file_model.specs.declared.head.Wanted.TheVariants.{Key};
+ghost use Rattle.file_model.specs.Heads.{HeadKeepsRules, wants};
 
 use crate::{Head, KeyWriter};
-use bfv_model::FileKind;
 use bound_num::Bound;
+use file_model::FileKind;
 use outer_io::{MemStore, Store, StoreFault};
 use rns_poly::{PolyBuf, View};
 use set_table::{KeyKind, SetName};
@@ -53,7 +53,7 @@ fn write_key<S: Store, const N: usize>(
     digit: View<'_, N>,
 ) -> Result<(), StoreFault>
     requires rules { HeadKeepsRules head.now }
-    requires kind { IsTrue (wants Key head.now.kind) }
+    requires kind { wants Key head.now.kind ≡ true }
     requires degree { N ≡ degree_of head.now.set }
     requires count { length digit.rows.now ≡ 2 * (length (data_of head.now.set) + 1) }
     requires reduced { ReducedInTurn N (length (data_of head.now.set) + 1) (key_of head.now.set) digit.rows.now }
@@ -72,7 +72,7 @@ fn key_digest<const N: usize>(
     rows: &PolyBuf<N>,
 ) -> Result<Option<[u8; 32]>, Fail>
     requires rules { HeadKeepsRules head.now }
-    requires kind { IsTrue (wants Key head.now.kind) }
+    requires kind { wants Key head.now.kind ≡ true }
     requires degree { N ≡ degree_of head.now.set }
     requires count { length rows.now ≡ 2 * (length (data_of head.now.set) + 1) }
     requires reduced { ReducedInTurn N (length (data_of head.now.set) + 1) (key_of head.now.set) rows.now }

@@ -1,5 +1,5 @@
 use Rattle.std.proofs.Common.{rules, arith, length, ◌≤◌}
-use Rattle.cipher_files.proofs.Parts.{part_read}
+use Rattle.file_scan.proofs.Parts.{part_read}
 use Rattle.cipher_files.proofs.file_part.read_again.Goals as goal
 
 pub returns-clause-told : goal.returns-clause-told

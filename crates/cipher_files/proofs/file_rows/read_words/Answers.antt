@@ -1,7 +1,7 @@
 use Rattle.std.proofs.Common.{◌≡◌, ℕ, ◌+◌, ◌-◌, ◌*◌, ◌<◌, ◌≤◌, ◌∙◌, ap, rules, arith, length, take, drop, length-take, length-drop}
 use Rattle.std.proofs.lemmas.Slice.{take-put_mid}
 use Rattle.outer_io.specs.Store.{contents}
-use Rattle.bfv_model.specs.Bytes.{bytes_from}
+use Rattle.file_model.specs.Bytes.{bytes_from}
 use Rattle.cipher_files.proofs.FileRows.{one_more_piece}
 use Rattle.cipher_files.proofs.file_rows.read_words.Goals as goal
 

@@ -2,7 +2,7 @@ use Rattle.std.proofs.Common.{◌≡◌, ◌<◌, ◌≤◌, ◌++◌, ◌+◌, 
 use Rattle.std.specs.Prelude.{slice_range}
 use Rattle.std.proofs.lemmas.List.{append-nil}
 use Rattle.sha2.specs.Hashers.{Holds256}
-use Rattle.bfv_model.specs.Bytes.{word_bytes}
+use Rattle.file_model.specs.Bytes.{word_bytes}
 use Rattle.ring_law.specs.Residues.{residue}
 use Rattle.cipher_files.proofs.Contents.{residues-more}
 use Rattle.cipher_files.proofs.RowWords.{word_bytes-none}

@@ -4,7 +4,7 @@ use Rattle.std.specs.Option.{ForSome}
 use Rattle.outer_io.specs.Store.{OnlyWrites}
 use Rattle.sha2.specs.Hashers.{Holds256}
 use Rattle.ring_law.specs.Residues.{residue}
-use Rattle.bfv_model.specs.Bytes.{word_bytes}
+use Rattle.file_model.specs.Bytes.{word_bytes}
 use Rattle.cipher_files.proofs.pieces.append_residues.Given as goal
 
 abbrev pub invariant-pieces : goal.invariant-pieces

@@ -3,7 +3,7 @@ use Rattle.std.specs.List.{concat}
 use Rattle.std.proofs.lemmas.Bool.{cases_lt}
 use Rattle.std.proofs.lemmas.List.{append-nil, get_or_default}
 use Rattle.sha2.specs.Hashers.{Holds256}
-use Rattle.bfv_model.specs.Bytes.{word_bytes}
+use Rattle.file_model.specs.Bytes.{word_bytes}
 use Rattle.cipher_files.proofs.RowWords.{row_bytes-more, word_bytes-none}
 use Rattle.cipher_files.proofs.pieces.append_rows.Goals as goal
 

@@ -1,8 +1,8 @@
 use Rattle.std.proofs.Common.{◌≡◌, ◌++◌, ◌+◌, ◌-◌, ℕ, List, take, drop, sym, ◌∙◌, ap, subst, arith, rules, append_assoc}
 use Rattle.std.proofs.lemmas.List.{append-nil}
 use Rattle.sha2.specs.Hashers.{Holds256}
-use Rattle.bfv_model.specs.Bytes.{word_bytes}
-use Rattle.bfv_model.proofs.Words.{word_bytes-take-add}
+use Rattle.file_model.specs.Bytes.{word_bytes}
+use Rattle.file_model.proofs.Words.{word_bytes-take-add}
 use Rattle.cipher_files.proofs.RowWords.{word_bytes-none}
 use Rattle.cipher_files.proofs.pieces.append_words.Goals as goal
 

@@ -7,9 +7,9 @@ use Rattle.outer_io.specs.Store.{contents}
 use Rattle.bfv_params.specs.Values.{CipherValue}
 use Rattle.bfv_params.proofs.Ciphers.{within_three}
 use Rattle.bfv_params.specs.Rows.{ZeroFrom}
-use Rattle.bfv_model.specs.FileText.{row_moduli}
-use Rattle.bfv_model.proofs.Rules.{data_count_pos}
-use Rattle.cipher_files.specs.Heads.{content_with}
+use Rattle.file_model.specs.FileText.{row_moduli}
+use Rattle.bfv_model.proofs.Sets.{data_count_pos}
+use Rattle.file_model.specs.Heads.{content_with}
 use Rattle.cipher_files.specs.SecondReading.{HoldsRowsOf}
 use Rattle.cipher_files.proofs.FileRows.{file_of_head, file_rows, first_rows, one_more_row, place_inside, row_in_turn, row_past, row_read, row_refused, rows_refused, some_rows, zero_from-set}
 use Rattle.cipher_files.proofs.Tables.{cipher_parts, cipher_rows}

@@ -3,7 +3,7 @@ use Rattle.std.specs.Option.{ForSome}
 use Rattle.set_table.specs.Sets.{data_of}
 use Rattle.outer_io.specs.Store.{OnlyReads}
 use Rattle.bfv_params.specs.Rows.{ZeroFrom}
-use Rattle.bfv_model.specs.FileText.{row_moduli}
+use Rattle.file_model.specs.FileText.{row_moduli}
 use Rattle.cipher_files.proofs.FileRows.{RowsSoFar}
 use Rattle.cipher_files.proofs.reading.read_cipher.Given as goal
 

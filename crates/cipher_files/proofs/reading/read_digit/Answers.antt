@@ -3,7 +3,7 @@ use Rattle.std.specs.Prelude.{slice_index}
 use Rattle.set_table.specs.Sets.{data_of, key_of}
 use Rattle.ring_law.specs.Rows.{IsReduced}
 use Rattle.outer_io.specs.Store.{contents}
-use Rattle.cipher_files.specs.Heads.{content_with}
+use Rattle.file_model.specs.Heads.{content_with}
 use Rattle.cipher_files.specs.SecondReading.{HoldsRows}
 use Rattle.cipher_files.proofs.FileRows.{file_of_head, reduced_set, file_rows, one_more_row, one_row, place_inside, row_in_turn, row_read, row_refused, rows_refused}
 use Rattle.cipher_files.proofs.Tables.{digit_modulus, key_table}

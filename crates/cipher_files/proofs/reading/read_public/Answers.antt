@@ -4,9 +4,9 @@ use Rattle.set_table.specs.declared.SetName.{SetName}
 use Rattle.set_table.specs.Sets.{data_of}
 use Rattle.outer_io.specs.Store.{contents}
 use Rattle.bfv_params.specs.Values.{PublicValue}
-use Rattle.bfv_model.specs.FileText.{row_moduli}
-use Rattle.bfv_model.proofs.Rules.{data_count_pos}
-use Rattle.cipher_files.specs.Heads.{content_with}
+use Rattle.file_model.specs.FileText.{row_moduli}
+use Rattle.bfv_model.proofs.Sets.{data_count_pos}
+use Rattle.file_model.specs.Heads.{content_with}
 use Rattle.cipher_files.specs.SecondReading.{HoldsRowsOf}
 use Rattle.cipher_files.proofs.FileRows.{file_of_head, first_rows, file_rows, one_more_row, place_inside, row_in_turn, row_read, row_refused, rows_refused}
 use Rattle.cipher_files.proofs.Tables.{public_rows}

@@ -5,8 +5,8 @@ use Rattle.outer_io.specs.Store.{contents}
 use Rattle.ring_law.specs.Rows.{listed_polynomial}
 use Rattle.bfv_params.specs.Values.{SecretValue}
 use Rattle.bfv_model.specs.Holds.{ternary_coefficient}
-use Rattle.bfv_model.specs.FileText.{row_count, row_moduli}
-use Rattle.cipher_files.specs.Heads.{content_with}
+use Rattle.file_model.specs.FileText.{row_count, row_moduli}
+use Rattle.file_model.specs.Heads.{content_with}
 use Rattle.cipher_files.specs.SecondReading.{HoldsRowsOf}
 use Rattle.cipher_files.proofs.FileRows.{file_of_head, file_rows, one_row_held, row_in_turn, row_refused, row_word, rows_refused}
 use Rattle.cipher_files.proofs.Tables.{secret_rows}

@@ -4,13 +4,13 @@ use Rattle.std.specs.Prelude.{OnOk, slice_range}
 use Rattle.outer_io.specs.Store.{with_file}
 use Rattle.set_table.specs.declared.SetName.{SetName}
 use Rattle.set_table.specs.Sets.{data_of, degree_of}
-use Rattle.bfv_model.specs.declared.file_kind.FileKind.{FileKind}
-use Rattle.bfv_model.specs.FileText.{file_text, row_count, row_moduli}
-use Rattle.bfv_model.proofs.Rules.{degree_pos}
+use Rattle.file_model.specs.declared.file_kind.FileKind.{FileKind}
+use Rattle.file_model.specs.FileText.{file_text, row_count, row_moduli}
+use Rattle.bfv_model.proofs.Sets.{degree_pos}
 use Rattle.bfv_params.specs.Kept.{IsCipher}
 use Rattle.bfv_params.specs.Rows.{ReducedInTurn}
 use Rattle.cipher_files.specs.Contents.{part_words}
-use Rattle.cipher_files.specs.Heads.{content_with}
+use Rattle.file_model.specs.Heads.{content_with}
 use Rattle.cipher_files.proofs.Contents.{at_most_three, length-front, part_words-front, parts_keep_rules}
 use Rattle.cipher_files.proofs.writing.write_cipher.Goals as goal
 

@@ -3,11 +3,11 @@ use Rattle.std.specs.Prelude.{OnOk}
 use Rattle.outer_io.specs.Store.{with_file}
 use Rattle.set_table.specs.declared.SetName.{SetName}
 use Rattle.set_table.specs.Sets.{data_of, degree_of}
-use Rattle.bfv_model.specs.declared.file_kind.FileKind.{FileKind}
-use Rattle.bfv_model.specs.FileText.{file_text, row_count, row_moduli}
+use Rattle.file_model.specs.declared.file_kind.FileKind.{FileKind}
+use Rattle.file_model.specs.FileText.{file_text, row_count, row_moduli}
 use Rattle.bfv_params.specs.Kept.{IsPublic}
 use Rattle.cipher_files.specs.Contents.{part_words}
-use Rattle.cipher_files.specs.Heads.{content_with}
+use Rattle.file_model.specs.Heads.{content_with}
 use Rattle.cipher_files.proofs.Contents.{parts_keep_rules}
 use Rattle.cipher_files.proofs.writing.write_public.Goals as goal
 

@@ -3,8 +3,8 @@ use Rattle.std.specs.Prelude.{Option, OnOk}
 use Rattle.std.proofs.lemmas.List.{length-map}
 use Rattle.outer_io.specs.Store.{Files, with_file}
 use Rattle.ring_law.specs.Residues.{residue}
-use Rattle.bfv_model.specs.FileText.{file_text}
-use Rattle.cipher_files.specs.Heads.{content_with}
+use Rattle.file_model.specs.FileText.{file_text}
+use Rattle.file_model.specs.Heads.{content_with}
 use Rattle.cipher_files.proofs.Contents.{ended, front-more, front_of_head}
 use Rattle.cipher_files.proofs.writing.write_residues.Goals as goal
 

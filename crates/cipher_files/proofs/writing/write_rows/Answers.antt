@@ -2,10 +2,10 @@ use Rattle.std.proofs.Common.{◌≡◌, ◌∙◌, ◌*◌, sym, ap, subst, ℕ
 use Rattle.std.specs.List.{concat}
 use Rattle.std.specs.Prelude.{Option, OnOk}
 use Rattle.outer_io.specs.Store.{Files, with_file}
-use Rattle.bfv_model.specs.FileText.{file_text}
+use Rattle.file_model.specs.FileText.{file_text}
 use Rattle.bfv_model.specs.Holds.{listed_word, listed_words}
 use Rattle.cipher_files.specs.Contents.{IsFront}
-use Rattle.cipher_files.specs.Heads.{content_with}
+use Rattle.file_model.specs.Heads.{content_with}
 use Rattle.cipher_files.proofs.Contents.{ended, front-more, front_of_head}
 use Rattle.cipher_files.proofs.ListedWords.{length-listed_words}
 use Rattle.cipher_files.proofs.RowWords.{listed_words-rows}

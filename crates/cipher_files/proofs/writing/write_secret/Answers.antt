@@ -3,10 +3,10 @@ use Rattle.std.specs.Prelude.{OnOk}
 use Rattle.outer_io.specs.Store.{with_file}
 use Rattle.set_table.specs.Sets.{degree_of}
 use Rattle.ring_law.specs.Residues.{residue}
-use Rattle.bfv_model.specs.FileText.{file_text}
-use Rattle.bfv_model.proofs.Rules.{degree_lt}
+use Rattle.file_model.specs.FileText.{file_text}
+use Rattle.bfv_model.proofs.Sets.{degree_lt}
 use Rattle.cipher_files.specs.Contents.{secret_words}
-use Rattle.cipher_files.specs.Heads.{content_with}
+use Rattle.file_model.specs.Heads.{content_with}
 use Rattle.cipher_files.proofs.Contents.{secret_keeps_rules, secret_polynomial-words, secret_words-residues}
 use Rattle.cipher_files.proofs.writing.write_secret.Goals as goal
 

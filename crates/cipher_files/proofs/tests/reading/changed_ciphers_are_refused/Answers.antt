@@ -1,10 +1,10 @@
 use Rattle.std.proofs.Common.{◌≡◌, ℕ, List, true, refl, rules}
 use Rattle.set_table.specs.declared.SetName.TheVariants.{Toy16}
 use Rattle.bound_num.specs.Bound.{bound_value, down, spacing, bit_length, digits_within}
-use Rattle.bfv_model.specs.declared.file_kind.FileKind.TheVariants.{Cipher}
-use Rattle.bfv_model.specs.FileText.{bound_fits}
+use Rattle.file_model.specs.declared.file_kind.FileKind.TheVariants.{Cipher}
+use Rattle.file_model.specs.FileText.{bound_fits}
 use Rattle.bfv_model.specs.Limit.{limit}
-use Rattle.cipher_files.specs.Heads.{HeadKeepsRules}
+use Rattle.file_model.specs.Heads.{HeadKeepsRules}
 use Rattle.cipher_files.proofs.tests.reading.changed_ciphers_are_refused.Goals as goal
 
 -- the bound 0 is at most the limit of each set

@@ -1,4 +1,0 @@
-use Rattle.cipher_files.proofs.front.head_in.Goals as goal
-
-pub returns-in-Some-clause-kept : goal.returns-in-Some-clause-kept
-returns-in-Some-clause-kept c = c.fields_in.ensures.kept c.args.wanted

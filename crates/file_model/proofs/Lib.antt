@@ -1,0 +1,11 @@
+pub mod Bytes
+pub mod Words
+pub mod Heads
+pub mod Rules
+pub mod Ranges
+pub mod Sets
+pub mod Files
+pub mod DrawnFiles
+pub mod WorkedRows
+pub mod Tests
+pub mod Laws

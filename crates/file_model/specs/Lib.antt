@@ -1,0 +1,9 @@
+pub mod Bytes
+pub mod FileText
+pub mod DrawnFiles
+pub mod Heads
+pub mod Fronts
+pub mod Scan
+pub mod Reading
+pub mod ScanFaults
+pub mod WorkedRows

@@ -1,0 +1,4 @@
+pub mod Parts
+pub mod ScanFaults
+pub mod Fronts
+pub mod Bodies
