@@ -11,12 +11,12 @@ use Rattle.set_table.specs.Sets.{degree_of, data_of}
 use Rattle.ring_law.specs.Moduli.{product}
 use Rattle.bound_num.specs.declared.Bound.{Bound}
 use Rattle.bound_num.specs.Bound.{bound_value}
-use Rattle.bfv_model.specs.declared.file_kind.FileKind.TheVariants.{Cipher}
-use Rattle.bfv_model.specs.FileText.{bound_fits}
+use Rattle.file_model.specs.declared.file_kind.FileKind.TheVariants.{Cipher}
+use Rattle.file_model.specs.FileText.{bound_fits}
 use Rattle.bfv_model.specs.Limit.{limit}
-use Rattle.bfv_model.proofs.DrawnFiles.{bound_fits-from_canonical}
+use Rattle.file_model.proofs.DrawnFiles.{bound_fits-from_canonical}
 use Rattle.bfv_model.proofs.Limits.{limit_le, limit_lt}
-use Rattle.bfv_model.proofs.Rules.{cipher_bound}
+use Rattle.file_model.proofs.Rules.{cipher_bound}
 use Rattle.bfv_params.specs.Moduli.{data_at}
 use Rattle.script_text.specs.declared.script.Op.{Op}
 use Rattle.script_text.specs.declared.script.Op.TheVariants.{Add, Sub, Neg, AddPlain, SubPlain, MulPlain, MulConst, Mul, Relin, Turn, Swap}
@@ -31,7 +31,7 @@ use Rattle.noise_check.proofs.Registers.{exact-le-rounded}
 use Rattle.noise_check.proofs.VerdictLaws.{accepted_values, accepted_canonical, accepted_within}
 use Rattle.command_model.specs.Plan.{bound_at}
 use Rattle.bfv_commands.specs.RunStages.{LeavesRoom}
-use Rattle.bfv_commands.proofs.Checking.{output_within}
+use Rattle.command_stages.proofs.Checking.{output_within}
 
 -- ---- the bounds of files
 -- the exponent of the bound that a cipher states is small

@@ -11,7 +11,7 @@ use Rattle.command_words.specs.declared.status.Status.{Status}
 use Rattle.command_words.specs.declared.status.Status.TheVariants.{Done, Memory, ReadFault, WriteFault}
 use Rattle.command_model.specs.Plan.{Output, out_name}
 use Rattle.command_model.specs.Answers.{Cause, WriteRose, IsOutputLine, IsPrinted, Printed, IsComplete, IsFault, IsOperandOf, NoFaultRose}
-use Rattle.bfv_commands.specs.Stages.{Announced, Caused}
+use Rattle.command_stages.specs.Stages.{Announced, Caused}
 
 -- the whole line of an answer was put
 pub printed_whole : (words : List (List ℕ)) (before : Option Files) (old new : SinkState) (status : Status) → status ≢ Done → new.text ≡ grown old (line words status)

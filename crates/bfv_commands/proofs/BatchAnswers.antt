@@ -11,10 +11,10 @@ use Rattle.command_model.specs.Plan.{commands, plan, plan_of_batch}
 use Rattle.command_model.specs.Answers.{Cause, IsFault, Printed, Told}
 use Rattle.command_model.specs.Batches.{World, NoCountFell, Answered, Chain, AreRun, BatchAnswered}
 use Rattle.bfv_commands.specs.Batching.{InOrder, all_done, stopped}
-use Rattle.bfv_commands.specs.Stages.{Caused}
+use Rattle.command_stages.specs.Stages.{Caused}
 use Rattle.bfv_commands.proofs.Answering.{answer_apart, cause_of_refusal, complete_answer}
-use Rattle.bfv_commands.proofs.Outputs.{plan_of_this, told_refused}
-use Rattle.bfv_commands.proofs.Running.{reads_nothing}
+use Rattle.command_stages.proofs.Outputs.{plan_of_this, told_refused}
+use Rattle.command_stages.proofs.Running.{reads_nothing}
 use Rattle.bfv_commands.proofs.Chains.{counts_of_reads, counts_then, chain_counts, cause_from, chain_told, same_stand, chain_follows}
 
 -- ---- a batch whose text wasn't taken

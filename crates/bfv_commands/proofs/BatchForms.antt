@@ -11,7 +11,7 @@ use Rattle.set_table.specs.Sets.{set_named}
 use Rattle.command_words.specs.declared.form.Form.TheVariants.{Secret, Public, Encrypt, Decrypt, Check, Batch}
 use Rattle.command_words.proofs.Words.{form_without_run}
 use Rattle.bfv_commands.specs.Batching.{AreSingle}
-use Rattle.bfv_commands.proofs.Fronts.{front_enough}
+use Rattle.command_stages.proofs.Fronts.{front_enough}
 
 -- words with the form of a batch begin with `batch`
 batch_begins : (words : List (List ℕ)) → form_of words ≡ Some Batch → begins_batch words ≡ true

@@ -10,12 +10,12 @@ use Rattle.set_table.specs.Sets.{degree_of, plain_of, data_of}
 use Rattle.ring_law.specs.Polynomials.{AllWithin}
 use Rattle.ring_law.specs.Rows.{natural_polynomial}
 use Rattle.bound_num.specs.Bound.{bound_value}
-use Rattle.bfv_model.specs.declared.file_kind.FileKind.TheVariants as kind
-use Rattle.bfv_model.specs.FileText.{FileContent}
+use Rattle.file_model.specs.declared.file_kind.FileKind.TheVariants as kind
+use Rattle.file_model.specs.FileText.{FileContent}
 use Rattle.bfv_model.specs.Holds.{CipherHolds, listed_word, listed_words, stored_word, secret_polynomial}
 use Rattle.bfv_model.specs.Slots.{slots_of}
 use Rattle.bfv_model.proofs.Ciphers.{stored_word-listed_words}
-use Rattle.bfv_model.proofs.DrawnFiles.{CipherHolds-equal_words, CipherHolds-within, secret_polynomial_within}
+use Rattle.bfv_model.proofs.ListedWords.{CipherHolds-equal_words, CipherHolds-within, secret_polynomial_within}
 use Rattle.bfv_params.specs.Kept.{IsCipher}
 use Rattle.bfv_params.specs.Rows.{ZeroFrom}
 use Rattle.bfv_params.specs.Values.{CipherValue, ContextValue, zero_cipher}
@@ -23,22 +23,23 @@ use Rattle.bfv_params.specs.Ciphers.{IsCipherOf}
 use Rattle.script_text.specs.declared.script.Op.{Op}
 use Rattle.script_text.specs.declared.script.Op.TheVariants.{Add, Sub, Neg, AddPlain, SubPlain, MulPlain, MulConst, Mul, Relin, Turn, Swap}
 use Rattle.script_text.specs.declared.script.Step.{Step}
-use Rattle.script_text.specs.Scripts.{Script, IsSound, AllFit, Fits, plain_inputs}
+use Rattle.script_text.specs.Scripts.{Script, IsSound, AllFit, Fits, input_shape, plain_inputs}
 use Rattle.script_run.specs.Places.{cipher_at}
 use Rattle.script_run.specs.Registers.{Live, input_count}
 use Rattle.script_run.specs.Runs.{Carries, InputsCarry}
 use Rattle.script_run.specs.Workspaces.{WorkspaceValue, MadeFor, input_of, whole_context}
 use Rattle.cipher_files.specs.Contents.{part_words}
-use Rattle.cipher_files.specs.Heads.{IsHeadOf}
+use Rattle.file_model.specs.Heads.{IsHeadOf}
 use Rattle.cipher_files.proofs.ListedWords.{length-listed_words}
 use Rattle.command_model.specs.Bindings.{no_content}
 use Rattle.command_model.specs.Plan.{stated_bounds}
 use Rattle.command_model.specs.Plain.{Owner, BelongsTo, IsSealed}
-use Rattle.bfv_commands.specs.declared.bound_files.BoundCipher.{BoundCipher}
-use Rattle.bfv_commands.specs.declared.bound_files.Operand.{Operand}
-use Rattle.bfv_commands.specs.BoundFiles.{AreHeld, MayBeBound, AreSealed}
+use Rattle.run_operands.specs.declared.bound_files.BoundCipher.{BoundCipher}
+use Rattle.run_operands.specs.declared.bound_files.Operand.{Operand}
+use Rattle.run_operands.specs.BoundFiles.{AreHeld, MayBeBound}
+use Rattle.command_stages.specs.Stages.{AreSealed}
 use Rattle.bfv_commands.specs.Filled.{AreListed, HasWordsOf, HaveWordsOf}
-use Rattle.bfv_commands.proofs.Decryptions.{at_all_moduli}
+use Rattle.key_commands.proofs.Decryptions.{at_all_moduli}
 
 -- ---- scripts have cipher inputs
 -- no operation fits where there is no register
@@ -62,7 +63,7 @@ no_output set plains output (step ∷ steps) fit below = no_operand set plains s
 pub some_cipher : (script : Script) → IsSound script → 0 < input_count script
 some_cipher script sound = ⊎_elim (λ (some : 0 < input_count script). some) (λ (none : input_count script ≤ 0). absurd (by (input_count script) none sound.fit sound.output)) (cases_lt 0 (input_count script))
   where
-    by : (count : ℕ) → count ≤ 0 → AllFit script.set (length (plain_inputs script.inputs)) (replicate count 2) script.steps → script.output < count + length script.steps → ⊥
+    by : (count : ℕ) → count ≤ 0 → AllFit script.set (length (plain_inputs script.inputs)) (replicate count input_shape) script.steps → script.output < count + length script.steps → ⊥
     by zero none fit below = no_output script.set (length (plain_inputs script.inputs)) script.output script.steps fit (omega arith)
     by (suc count) none fit below = omega arith
 

@@ -10,23 +10,24 @@ use Rattle.set_table.specs.declared.SetName.{SetName}
 use Rattle.set_table.specs.Sets.{degree_of, plain_of, data_of}
 use Rattle.script_text.specs.declared.faults.ValuePlace.{ValuePlace}
 use Rattle.script_text.specs.Reading.{values_of}
-use Rattle.bfv_model.specs.declared.file_kind.FileKind.{FileKind}
-use Rattle.bfv_model.specs.declared.file_kind.FileKind.TheVariants.{Secret, PublicKey}
-use Rattle.bfv_model.specs.FileText.{FileContent, IsFile, file_text}
+use Rattle.file_model.specs.declared.file_kind.FileKind.{FileKind}
+use Rattle.file_model.specs.declared.file_kind.FileKind.TheVariants.{Secret, PublicKey}
+use Rattle.file_model.specs.FileText.{FileContent, IsFile, file_text}
 use Rattle.bfv_model.specs.Drawn.{seed_stream, stream_word, greatest_error}
-use Rattle.bfv_model.specs.DrawnFiles.{drawn_secret_file, drawn_public_file, drawn_cipher_file}
+use Rattle.file_model.specs.DrawnFiles.{drawn_secret_file, drawn_public_file, drawn_cipher_file}
 use Rattle.bfv_model.specs.Holds.{stored_word, secret_polynomial}
 use Rattle.bfv_model.specs.Keys.{WordsArePublicKeyOf}
-use Rattle.bfv_model.proofs.DrawnFiles.{drawn_secret_file-count, drawn_secret_file-below, drawn_secret_file-KeepsRules, secret_polynomial_within, drawn_public_file-KeepsRules, drawn_public_file-IsPublicKey, drawn_cipher_file-KeepsRules, drawn_cipher_file-CipherHolds}
-use Rattle.cipher_files.specs.Heads.{wants}
-use Rattle.cipher_files.specs.declared.head.Wanted.{Wanted}
-use Rattle.cipher_files.specs.declared.head.Wanted.TheVariants as wanted
-use Rattle.cipher_files.proofs.Laws.{scanned-complete}
+use Rattle.file_model.proofs.DrawnFiles.{drawn_secret_file-count, drawn_secret_file-below, drawn_secret_file-KeepsRules, drawn_public_file-KeepsRules, drawn_public_file-IsPublicKey, drawn_cipher_file-KeepsRules, drawn_cipher_file-CipherHolds}
+use Rattle.bfv_model.proofs.ListedWords.{secret_polynomial_within}
+use Rattle.file_model.specs.Heads.{wants}
+use Rattle.file_model.specs.declared.head.Wanted.{Wanted}
+use Rattle.file_model.specs.declared.head.Wanted.TheVariants as wanted
+use Rattle.file_model.proofs.Laws.{scanned-complete}
 use Rattle.command_words.specs.Line.{word_at}
 use Rattle.command_words.specs.declared.status.Status.TheVariants.{ShortSeed}
 use Rattle.command_model.specs.Plan.{operand, taken, content_or_fault, taken_seed, seed_operand, taken_values, values_or_fault, values_operand, seed_word, IsFreshCipher}
 use Rattle.command_model.specs.Plain.{Owner, Item, text, secret_of, public_key_of, sealed, State, Stands, IsItem, BelongsTo, IsSecretOf, IsPublicKeyFor, IsSealed, drawn_owner, drawn, published, sealed_if_read, sealed_under}
-use Rattle.bfv_commands.proofs.FreshBounds.{fresh_bound_fits}
+use Rattle.key_commands.proofs.FreshBounds.{fresh_bound_fits}
 
 -- ---- operands
 -- the content of an operand: a file has it, and it is what the file stands for

@@ -6,7 +6,7 @@ use Rattle.std.proofs.lemmas.Slice.Eq.{bytes_eq-Decides}
 use Rattle.std.proofs.lemmas.Bool.{eqb-true, and_parts}
 use Rattle.set_table.specs.declared.SetName.{SetName}
 use Rattle.set_table.specs.Sets.{number_of}
-use Rattle.bfv_model.proofs.Files.{number_of-once}
+use Rattle.file_model.proofs.Sets.{number_of-once}
 use Rattle.command_model.specs.Plain.{Owner, same_owner}
 
 abbrev owned : SetName → List ℕ → List ℕ → Owner

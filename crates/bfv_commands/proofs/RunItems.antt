@@ -8,9 +8,9 @@ use Rattle.std.proofs.lemmas.List.{get_or-map}
 use Rattle.outer_io.specs.Store.{Files, file}
 use Rattle.set_table.specs.declared.SetName.{SetName}
 use Rattle.set_table.specs.Sets.{degree_of, plain_of}
-use Rattle.bfv_model.specs.declared.file_kind.FileKind.TheVariants as kind
-use Rattle.bfv_model.specs.FileText.{FileContent}
-use Rattle.cipher_files.specs.declared.head.Wanted.TheVariants as wanted
+use Rattle.file_model.specs.declared.file_kind.FileKind.TheVariants as kind
+use Rattle.file_model.specs.FileText.{FileContent}
+use Rattle.file_model.specs.declared.head.Wanted.TheVariants as wanted
 use Rattle.script_text.specs.declared.faults.ScriptPlace.{ScriptPlace}
 use Rattle.script_text.specs.declared.faults.ValuePlace.{ValuePlace}
 use Rattle.script_text.specs.declared.script.Input.{Input}
@@ -25,14 +25,14 @@ use Rattle.command_words.specs.Line.{word_at}
 use Rattle.command_model.specs.Bindings.{Operand, bound_cipher, bound_values, no_content, content_of, values_in, operand_of, bindings_of, bound_names, input_named, kind_at, place_bound, ciphers_of, plains_of}
 use Rattle.command_model.specs.Plan.{and_then, taken, taken_values, values_or_fault, script_or_fault, taken_operand, operand_bound, operands_from, taken_script, Output}
 use Rattle.command_model.specs.Plain.{Owner, Item, text, sealed, State, Stands, IsItem, IsSealed, same_owner, item_bound, owner_of, values_given, all_given, sealed_value, ran_script, ran}
-use Rattle.bfv_commands.specs.BoundFiles.{AreSealed}
-use Rattle.bfv_commands.specs.Stages.{IsRunOf}
-use Rattle.bfv_commands.proofs.Steps.{both_steps}
-use Rattle.bfv_commands.proofs.InOrder.{own_kind}
+use Rattle.command_stages.specs.Stages.{AreSealed}
+use Rattle.command_stages.specs.Stages.{IsRunOf}
+use Rattle.command_stages.proofs.Steps.{both_steps}
+use Rattle.run_operands.proofs.InOrder.{own_kind}
 use Rattle.bfv_commands.proofs.InputNames.{binding_at, bound_at}
 use Rattle.bfv_commands.proofs.MadeItems.{content_at, belongs_wanted, text_at}
 use Rattle.bfv_commands.proofs.Owners.{same_owner_equal}
-use Rattle.bfv_commands.proofs.RunPlans.{PlannedRun, run_of}
+use Rattle.command_stages.proofs.RunPlans.{PlannedRun, run_of}
 
 -- ---- what is given to inputs
 -- where all are given, the first and the others are

@@ -11,17 +11,17 @@ use Rattle.set_table.specs.declared.SetName.{SetName}
 use Rattle.set_table.specs.Sets.{degree_of, data_of}
 use Rattle.bound_num.specs.declared.Bound.{Bound}
 use Rattle.bound_num.specs.Bound.{bound_value}
-use Rattle.bfv_model.specs.declared.file_kind.FileKind.{FileKind}
-use Rattle.bfv_model.specs.declared.file_kind.FileKind.TheVariants as kind
-use Rattle.bfv_model.specs.FileText.{FileContent, IsFile, KeepsRules, file_text, parts_fit, bound_fits}
+use Rattle.file_model.specs.declared.file_kind.FileKind.{FileKind}
+use Rattle.file_model.specs.declared.file_kind.FileKind.TheVariants as kind
+use Rattle.file_model.specs.FileText.{FileContent, IsFile, KeepsRules, file_text, parts_fit, bound_fits}
 use Rattle.bfv_model.specs.Holds.{secret_polynomial}
-use Rattle.bfv_model.proofs.Rules.{cipher_bound-IsCanonical}
+use Rattle.file_model.proofs.Rules.{cipher_bound-IsCanonical}
 use Rattle.bfv_params.specs.Kept.{IsCipher}
 use Rattle.bfv_params.specs.Values.{CipherValue}
 use Rattle.bfv_params.specs.Ciphers.{IsCipherOf}
 use Rattle.script_text.specs.declared.script.InputKind.{InputKind}
 use Rattle.script_text.specs.declared.script.InputKind.TheVariants as input
-use Rattle.script_text.specs.Scripts.{Script, IsSound, cipher_inputs, is_cipher, parts_of}
+use Rattle.script_text.specs.Scripts.{Script, IsSound, cipher_inputs, is_cipher, shape_at, shapes_of}
 use Rattle.script_text.specs.Value.{value_of}
 use Rattle.noise_check.specs.ExactBounds.{exact_bounds}
 use Rattle.script_run.specs.Premises.{IsQuiet}
@@ -30,10 +30,10 @@ use Rattle.script_run.specs.Workspaces.{whole_context}
 use Rattle.noise_check.specs.declared.verdict.Verdict.{Verdict}
 use Rattle.noise_check.specs.declared.verdict.Verdict.TheVariants as verdict
 use Rattle.noise_check.specs.Numbers.{numbers, AllCanonical}
-use Rattle.cipher_files.specs.declared.head.Head.{Head}
+use Rattle.file_model.specs.declared.head.Head.{Head}
 use Rattle.cipher_files.specs.Contents.{part_words}
-use Rattle.cipher_files.specs.Heads.{HeadKeepsRules, content_with, wants}
-use Rattle.cipher_files.specs.declared.head.Wanted.TheVariants as wanted
+use Rattle.file_model.specs.Heads.{HeadKeepsRules, content_with, wants}
+use Rattle.file_model.specs.declared.head.Wanted.TheVariants as wanted
 use Rattle.command_words.specs.Form.{binding_file}
 use Rattle.command_words.specs.Line.{word_at}
 use Rattle.command_words.specs.declared.status.Status.{Status}
@@ -42,20 +42,21 @@ use Rattle.command_model.specs.Bindings as bindings
 use Rattle.command_model.specs.Bindings.{Run, bound_cipher, bound_values, no_content, content_of, operand_of, bound_names, place_bound, first_key_id, ciphers_of, plains_of}
 use Rattle.command_model.specs.Plain.{Owner}
 use Rattle.command_model.specs.Plan.{running, accepted, accepted_or_noisy, run_or_noisy, bound_at, mismatch, set_refusal, parts_refusal, key_refusal, first_refusal, stated_bounds}
-use Rattle.bfv_commands.specs.BoundFiles.{AreHeld, AreOperands, AreSealed, FitsKind, MayBeBound}
+use Rattle.run_operands.specs.BoundFiles.{AreHeld, AreOperands, FitsKind, MayBeBound}
+use Rattle.command_stages.specs.Stages.{AreSealed}
 use Rattle.bfv_commands.specs.Filled.{AreListed, IsListed, values_listed}
-use Rattle.bfv_commands.specs.Ordered.{ArePlainValues, CanRunOn}
+use Rattle.run_operands.specs.Ordered.{ArePlainValues, CanRunOn}
 use Rattle.bfv_commands.specs.RunStages.{AreOfKey, LeavesRoom, bounds_of, run_head, run_with}
-use Rattle.bfv_commands.specs.Stages.{IsRunOf, Wrote}
-use Rattle.bfv_commands.specs.declared.bound_files.BoundCipher.{BoundCipher}
-use Rattle.bfv_commands.specs.declared.bound_files.Operand.{Operand}
-use Rattle.bfv_commands.specs.declared.bound_files.Operand.TheVariants.{Cipher, Values}
-use Rattle.bfv_commands.proofs.Places.{element_there}
-use Rattle.bfv_commands.proofs.InOrder.{input_bound, place_is}
+use Rattle.command_stages.specs.Stages.{IsRunOf, Wrote}
+use Rattle.run_operands.specs.declared.bound_files.BoundCipher.{BoundCipher}
+use Rattle.run_operands.specs.declared.bound_files.Operand.{Operand}
+use Rattle.run_operands.specs.declared.bound_files.Operand.TheVariants.{Cipher, Values}
+use Rattle.run_operands.proofs.Places.{element_there}
+use Rattle.run_operands.proofs.InOrder.{input_bound, place_is}
 use Rattle.bfv_commands.proofs.AcceptedRuns.{stated_exponent}
 use Rattle.bfv_commands.proofs.OutputParts.{IsTwoOrThree, output_parts}
 use Rattle.bfv_commands.proofs.Executing.{some_cipher, output_sealed}
-use Rattle.bfv_commands.proofs.Running.{wrote_file}
+use Rattle.command_stages.proofs.Running.{wrote_file}
 
 -- ---- the verdict
 -- a bound that is accepted is that of the output
@@ -236,7 +237,7 @@ bounds_more ciphers i d bounds inside so_far =
 
 -- a head that states what is determined of the output keeps the rules
 pub run_head_rules : (script : Script) (set : SetName) (parts words : ℕ) (id : List ℕ) (bound : Bound) → IsSound script → set ≡ script.set
-    → parts ≡ slice_index (parts_of script.inputs script.steps) script.output → words ≡ parts * length (data_of set) * degree_of set
+    → parts ≡ (shape_at (shapes_of script.inputs script.steps) script.output).parts → words ≡ parts * length (data_of set) * degree_of set
     → IsTrue (bound_fits kind.Cipher script.set bound.m bound.e)
     → HeadKeepsRules (record { kind = kind.Cipher; set = set; parts = parts; element = 0; id = id; bound = bound; words = words })
 run_head_rules script set parts words id bound sound set_is parts_is words_is fits = record {
@@ -290,7 +291,7 @@ pub wrote_run : (n count : ℕ) (words : List (List ℕ)) (name : List ℕ) (tol
     → head ≡ run_head script head.id head.bound → LeavesRoom script (numbers (bounds_of ciphers)) head.bound → All (MayBeBound script.set count) ciphers
     → length ciphers ≡ length (cipher_inputs script.inputs) → AreHeld words before ciphers held → AreOfKey held head.id
     → IsCipherOf (whole_context script.set) cipher → IsCipher n cipher.set cipher.room cipher.level cipher.parts cipher.rows
-    → cipher.parts ≡ slice_index (parts_of script.inputs script.steps) script.output → KeepsRules (content_with head (part_words n head.set head.parts cipher.rows))
+    → cipher.parts ≡ (shape_at (shapes_of script.inputs script.steps) script.output).parts → KeepsRules (content_with head (part_words n head.set head.parts cipher.rows))
     → ((owner : Owner) (lists : List (List ℕ)) → AreSealed owner script held plains lists → IsQuiet (whole_context script.set) script (stated_bounds held)
     → Carries n (whole_context script.set) (secret_polynomial owner.secret) cipher (value_of script lists) (slice_index (exact_bounds script (stated_bounds held)) script.output))
     → after ≡ with_file told name (file_text (content_with head (part_words n head.set head.parts cipher.rows)))

@@ -8,14 +8,14 @@ use Rattle.set_table.specs.Sets.{degree_of, plain_of, data_of}
 use Rattle.ring_law.specs.Rows.{natural_polynomial}
 use Rattle.script_text.specs.Values.{printed_values}
 use Rattle.bound_num.specs.Bound.{bound_value}
-use Rattle.bfv_model.specs.declared.file_kind.FileKind.{FileKind}
-use Rattle.bfv_model.specs.declared.file_kind.FileKind.TheVariants.{Secret, Cipher}
-use Rattle.bfv_model.specs.FileText.{FileContent, IsFile, bound_fits}
-use Rattle.bfv_model.specs.DrawnFiles.{drawn_secret_file, drawn_public_file}
+use Rattle.file_model.specs.declared.file_kind.FileKind.{FileKind}
+use Rattle.file_model.specs.declared.file_kind.FileKind.TheVariants.{Secret, Cipher}
+use Rattle.file_model.specs.FileText.{FileContent, IsFile, bound_fits}
+use Rattle.file_model.specs.DrawnFiles.{drawn_secret_file, drawn_public_file}
 use Rattle.bfv_model.specs.Holds.{CipherHolds, stored_word, secret_polynomial}
 use Rattle.bfv_model.specs.Slots.{slots_of}
-use Rattle.bfv_model.proofs.Rules.{cipher_bound-room}
-use Rattle.cipher_files.specs.declared.head.Wanted.TheVariants as wanted
+use Rattle.file_model.proofs.Rules.{cipher_bound-room}
+use Rattle.file_model.specs.declared.head.Wanted.TheVariants as wanted
 use Rattle.command_words.specs.Form.{form_of}
 use Rattle.command_words.specs.Line.{word_at}
 use Rattle.command_words.specs.declared.form.Form.{Form}
@@ -25,11 +25,11 @@ use Rattle.command_model.specs.Plan.{Output, file_with, sealing, running, values
 use Rattle.command_model.specs.Bindings.{bound_names}
 use Rattle.command_model.specs.Plain.{Owner, Item, text, secret_of, sealed, drawn, State, Stands, IsItem, IsSecretOf, IsSealed, opened, same_owner, item_made, with_item, with_item_at, step, step_of_form}
 use Rattle.command_model.proofs.Standing.{stands_with}
-use Rattle.bfv_commands.specs.Stages.{AreWritten, IsMade, IsDecryption}
+use Rattle.command_stages.specs.Stages.{AreWritten, IsMade, IsDecryption}
 use Rattle.bfv_commands.proofs.Owners.{same_owner_equal}
-use Rattle.bfv_commands.proofs.RunPlans.{planned_run, run_of}
+use Rattle.command_stages.proofs.RunPlans.{planned_run, run_of}
 use Rattle.bfv_commands.proofs.RunItems.{item_ran}
-use Rattle.bfv_commands.proofs.Outputs.{planned_secret, planned_public_key, planned_cipher, planned_values}
+use Rattle.command_stages.proofs.Outputs.{planned_secret, planned_public_key, planned_cipher, planned_values}
 use Rattle.bfv_commands.proofs.MadeItems.{operand_content, belongs_wanted, item_drawn, item_published, item_sealed}
 
 -- ---- opened values

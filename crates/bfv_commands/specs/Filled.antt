@@ -2,15 +2,15 @@
 use Rattle.std.specs.Prelude.{◌≡◌, ℕ, ◌<◌, List, [], length, slice_get, slice_index, slice_index_or, Option, Some, None}
 use Rattle.set_table.specs.declared.SetName.{SetName}
 use Rattle.set_table.specs.Sets.{data_of}
-use Rattle.bfv_model.specs.FileText.{FileContent}
+use Rattle.file_model.specs.FileText.{FileContent}
 use Rattle.bfv_model.specs.Holds.{listed_word, stored_word}
 use Rattle.bfv_params.specs.Values.{CipherValue}
 use Rattle.script_text.specs.declared.script.InputKind.TheVariants.{Plain}
 use Rattle.script_run.specs.Workspaces.{WorkspaceValue, input_of}
 use Rattle.command_model.specs.Bindings.{no_content}
-use Rattle.bfv_commands.specs.BoundFiles.{FitsKind}
-use Rattle.bfv_commands.specs.declared.bound_files.Operand.{Operand}
-use Rattle.bfv_commands.specs.declared.bound_files.Operand.TheVariants.{Values}
+use Rattle.run_operands.specs.BoundFiles.{FitsKind}
+use Rattle.run_operands.specs.declared.bound_files.Operand.{Operand}
+use Rattle.run_operands.specs.declared.bound_files.Operand.TheVariants.{Values}
 
 -- there is an operand, and it is values for a plain input of a script with this set
 abbrev pub IsListed : SetName → Option Operand → Type 0

@@ -1,10 +1,3 @@
-pub mod Operands
-pub mod BoundFiles
-pub mod BoundReads
-pub mod Encrypted
-pub mod Stages
 pub mod Filled
-pub mod Demands
-pub mod Ordered
 pub mod RunStages
 pub mod Batching

@@ -4,10 +4,10 @@ use Rattle.outer_io.specs.Store.{Files}
 use Rattle.set_table.specs.Sets.{degree_of, data_of}
 use Rattle.bound_num.specs.declared.Bound.{Bound}
 use Rattle.bound_num.specs.Bound.{bound_value}
-use Rattle.bfv_model.specs.declared.file_kind.FileKind.TheVariants as kind
-use Rattle.bfv_model.specs.FileText.{FileContent, bound_fits}
-use Rattle.cipher_files.specs.declared.head.Head.{Head}
-use Rattle.script_text.specs.Scripts.{Script, parts_of}
+use Rattle.file_model.specs.declared.file_kind.FileKind.TheVariants as kind
+use Rattle.file_model.specs.FileText.{FileContent, bound_fits}
+use Rattle.file_model.specs.declared.head.Head.{Head}
+use Rattle.script_text.specs.Scripts.{Script, shape_at, shapes_of}
 use Rattle.noise_check.specs.ExactBounds.{exact_bounds}
 use Rattle.script_run.specs.Premises.{IsQuiet}
 use Rattle.script_run.specs.Workspaces.{whole_context}
@@ -18,9 +18,9 @@ use Rattle.command_model.specs.Bindings as bindings
 use Rattle.command_model.specs.Bindings.{Run, no_content}
 use Rattle.command_model.specs.Plan.{plan_of_run, operands_from, mismatch, IsReached}
 use Rattle.command_model.specs.Answers.{IsFault}
-use Rattle.bfv_commands.specs.BoundFiles.{AreOperands}
-use Rattle.bfv_commands.specs.declared.bound_files.BoundCipher.{BoundCipher}
-use Rattle.bfv_commands.specs.declared.bound_files.Operand.{Operand}
+use Rattle.run_operands.specs.BoundFiles.{AreOperands}
+use Rattle.run_operands.specs.declared.bound_files.BoundCipher.{BoundCipher}
+use Rattle.run_operands.specs.declared.bound_files.Operand.{Operand}
 
 -- a refusal of `run` before it writes is the planned one, or an answer that no word and no file brings about; a file that can't be read
 -- was reached
@@ -50,11 +50,11 @@ abbrev pub run_head : Script → List ℕ → Bound → Head
 run_head script id bound = record {
   kind = kind.Cipher;
   set = script.set;
-  parts = slice_index (parts_of script.inputs script.steps) script.output;
+  parts = (shape_at (shapes_of script.inputs script.steps) script.output).parts;
   element = 0;
   id = id;
   bound = bound;
-  words = slice_index (parts_of script.inputs script.steps) script.output * length (data_of script.set) * degree_of script.set;
+  words = (shape_at (shapes_of script.inputs script.steps) script.output).parts * length (data_of script.set) * degree_of script.set;
 }
 
 -- the run of a script on these contents and values, the head of its output being given

@@ -9,18 +9,18 @@ ghost use Rattle.command_model.specs.Plan as plan;
 ghost use Rattle.command_model.specs.Answers.{Told, NoFaultRose, IsComplete, Cause, Printed};
 ghost use Rattle.command_model.specs.Batches.{BatchAnswered, NoCountFell};
 ghost use Rattle.command_model.specs.Plain.{State, Stands, step};
-ghost use Rattle.bfv_commands.specs.Stages.{Caused, IsLeftToPut, Ran, Announced};
+ghost use Rattle.command_stages.specs.Stages.{Caused, IsLeftToPut, Ran, Announced};
 
 use crate::batch::batch;
-use crate::check::check;
-use crate::decrypt::decrypt;
-use crate::encrypt::encrypt;
-use crate::public::public;
 use crate::run_script::run_script;
-use crate::secret::secret;
 use command_words::{Form, Status, form_of, put_line};
+use key_commands::decrypt::decrypt;
+use key_commands::encrypt::encrypt;
+use key_commands::public::public;
+use key_commands::secret::secret;
 use outer_io::{Sink, SinkFault, Store};
 use std::alloc::Global;
+use text_commands::check::check;
 
 /// Does what the words ask for.
 ///

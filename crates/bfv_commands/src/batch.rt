@@ -11,18 +11,18 @@ ghost use Rattle.command_words.specs.declared.form.Form.TheVariants as form;
 ghost use Rattle.command_model.specs.Plan as plan;
 ghost use Rattle.command_model.specs.Batches.{BatchAnswered};
 ghost use Rattle.bfv_commands.specs.Batching.{InOrder, AreSingle};
-ghost use Rattle.bfv_commands.specs.Stages.{Planned, Caused};
+ghost use Rattle.command_stages.specs.Stages.{Planned, Caused};
 
 use crate::answer::{report, single};
-use crate::operand::name_of;
-use batch_text::read_commands;
+use batch_text::{MAX_BATCH_BYTES, read_commands};
+use command_stages::name_of;
 use command_words::Status;
 use outer_io::{Sink, Store, StoreFault, read_front};
 use script_text::ScriptFault;
 use std::alloc::Global;
 
 /// One byte more than the text of a batch may have.
-const BATCH_LIMIT: u64 = 1_048_577;
+const BATCH_LIMIT: u64 = MAX_BATCH_BYTES as u64 + 1;
 
 /// Does `batch FILE`.
 pub fn batch<S: Store, O: Sink>(

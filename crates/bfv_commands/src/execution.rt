@@ -6,9 +6,9 @@ ghost use Rattle.outer_io.specs.Store.{OnlyReads};
 ghost use Rattle.set_table.specs.declared.SetName.{SetName};
 ghost use Rattle.set_table.specs.Sets.{degree_of, plain_of};
 ghost use Rattle.ring_law.specs.Rows.{IsReduced};
-ghost use Rattle.bfv_model.specs.FileText.{FileContent};
+ghost use Rattle.file_model.specs.FileText.{FileContent};
 ghost use Rattle.bfv_model.specs.Holds.{secret_polynomial};
-ghost use Rattle.script_text.specs.Scripts.{cipher_inputs, plain_inputs, parts_of, is_linear};
+ghost use Rattle.script_text.specs.Scripts.{cipher_inputs, plain_inputs, shape_at, shapes_of, is_linear};
 ghost use Rattle.script_text.specs.Value.{value_of};
 ghost use Rattle.noise_check.specs.ExactBounds.{exact_bounds};
 ghost use Rattle.bfv_params.specs.Ciphers.{IsCipherOf};
@@ -20,19 +20,19 @@ ghost use Rattle.command_words.specs.Form.{binding_file};
 ghost use Rattle.command_words.specs.Line.{word_at};
 ghost use Rattle.command_model.specs.Plan.{stated_bounds};
 ghost use Rattle.command_model.specs.Plain.{Owner};
-ghost use Rattle.bfv_commands.specs.Operands.{HasContentAt, Gives};
-ghost use Rattle.bfv_commands.specs.BoundFiles.{AreHeld, MayBeBound, AreSealed};
+ghost use Rattle.command_stages.specs.Operands.{HasContentAt, Gives};
+ghost use Rattle.run_operands.specs.BoundFiles.{AreHeld, MayBeBound};
+ghost use Rattle.command_stages.specs.Stages.{AreSealed};
 ghost use Rattle.bfv_commands.specs.Filled.{IsListed, values_listed, AreListed, HasWordsOf, HaveWordsOf};
-ghost use Rattle.bfv_commands.specs.Stages.{Caused};
+ghost use Rattle.command_stages.specs.Stages.{Caused};
 
-use crate::bindings::file_bound;
-use crate::bound_files::{BoundCipher, Operand};
-use crate::scanned::status_of;
 use bfv_params::Context;
 use cipher_files::read_cipher;
+use command_stages::status_of;
 use command_words::Status;
 use key_switch::MemKeys;
 use outer_io::Store;
+use run_operands::{BoundCipher, Operand, file_bound};
 use script_run::Workspace;
 use script_text::Script;
 use std::alloc::Global;
@@ -62,7 +62,7 @@ pub fn executed<S: Store, const N: usize>(
     ensures reads { IfErr result (λ s. s ≢ Status.WriteFault) }
     ensures done { IfOk result (λ space. space.done ≡ true) }
     ensures of_context { IfOk result (λ space. IsCipherOf (whole_context script.now.set) (output_of space)) }
-    ensures parts { IfOk result (λ space. (output_of space).parts ≡ slice_index (parts_of script.now.inputs script.now.steps) script.now.output) }
+    ensures parts { IfOk result (λ space. (output_of space).parts ≡ (shape_at (shapes_of script.now.inputs script.now.steps) script.now.output).parts) }
     ensures told { ForSome (S.state store.old).files (λ files. (contents : List FileContent)
         → AreHeld (map string_bytes words.now) files ciphers.now contents
         → Gives result (λ space. (owner : Owner) (plains lists : List (List ℕ))

@@ -4,22 +4,8 @@
 
 mod answer;
 mod batch;
-mod bindings;
-mod bound_files;
-mod check;
-mod decrypt;
-mod encrypt;
 mod execution;
-mod matching;
-mod operand;
-mod ordering;
-mod public;
-mod reread;
 mod run_output;
 mod run_script;
-mod scanned;
-mod secret;
-mod seed;
-mod writing;
 
 pub use answer::command;

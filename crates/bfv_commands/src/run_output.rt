@@ -4,9 +4,9 @@ ghost use Rattle.std.specs.Option.{ForSome};
 ghost use Rattle.std.specs.String.{string_bytes};
 ghost use Rattle.outer_io.specs.Store.{Files, StoreState};
 ghost use Rattle.set_table.specs.Sets.{degree_of};
-ghost use Rattle.bfv_model.specs.declared.file_kind.FileKind.TheVariants as kind;
-ghost use Rattle.bfv_model.specs.FileText.{FileContent, bound_fits};
-ghost use Rattle.cipher_files.specs.Heads.{HeadKeepsRules};
+ghost use Rattle.file_model.specs.declared.file_kind.FileKind.TheVariants as kind;
+ghost use Rattle.file_model.specs.FileText.{FileContent, bound_fits};
+ghost use Rattle.file_model.specs.Heads.{HeadKeepsRules};
 ghost use Rattle.script_text.specs.Scripts.{is_linear, cipher_inputs, plain_inputs};
 ghost use Rattle.noise_check.specs.Numbers.{numbers};
 ghost use Rattle.noise_check.specs.Verdicts.{verdict_of};
@@ -15,27 +15,24 @@ ghost use Rattle.command_words.specs.declared.form.Form.TheVariants as form;
 ghost use Rattle.command_model.specs.Bindings as bindings;
 ghost use Rattle.command_model.specs.Plan as plan;
 ghost use Rattle.command_model.specs.Batches.{NoCountFell};
-ghost use Rattle.bfv_commands.specs.BoundFiles.{AreHeld, AreOperands, MayBeBound};
+ghost use Rattle.run_operands.specs.BoundFiles.{AreHeld, AreOperands, MayBeBound};
 ghost use Rattle.bfv_commands.specs.Filled.{AreListed, IsListed};
-ghost use Rattle.bfv_commands.specs.Ordered.{CanRunOn};
+ghost use Rattle.run_operands.specs.Ordered.{CanRunOn};
 ghost use Rattle.bfv_commands.specs.RunStages.{AreMatched, AreOfKey, LeavesRoom, bounds_of, run_head, run_with};
-ghost use Rattle.bfv_commands.specs.Stages.{IsRunOf, Planned, Ran, Wrote, Caused};
+ghost use Rattle.command_stages.specs.Stages.{IsRunOf, Planned, Ran, Wrote, Caused};
 
-use crate::bound_files::{BoundCipher, Operand};
-use crate::check::output_bound;
 use crate::execution::executed;
-use crate::matching::first_key_id;
-use crate::operand::name_of;
-use crate::ordering::{ciphers_in_order, plain_places};
-use crate::writing::write_status;
-use bfv_model::FileKind;
 use bound_num::Bound;
 use cipher_files::{Head, write_cipher};
+use command_stages::name_of;
 use command_words::Status;
+use key_commands::write_status;
 use outer_io::Store;
+use run_operands::{BoundCipher, Operand, ciphers_in_order, first_key_id, plain_places};
 use script_text::Script;
 use set_table::SetName;
 use std::alloc::{AllocError, Global};
+use text_commands::output_bound;
 
 /// Writes what a linear script gives on the operands of its bindings, which match.
 pub fn write_run<S: Store>(
@@ -54,7 +51,7 @@ pub fn write_run<S: Store>(
     ensures counts { NoCountFell (S.state store.old) (S.state store.new) }
     ensures unchanged { OnErr result ((S.state store.new).files ≡ (S.state store.old).files) }
     ensures told { ForSome (S.state store.old).files (λ files. plan.script_operand (map string_bytes words.now) files 1 ≡ Ok script.now
-        → plan.unbuilt script.now ≡ None → AreMatched (map string_bytes words.now) files script.now operands.now
+        → plan.not_linear script.now ≡ None → AreMatched (map string_bytes words.now) files script.now operands.now
         → Ran form.Run (map string_bytes words.now) files (S.state store.new).files result) }
     ensures cause { IfErr result (λ s. Caused (λ w. (3 ≤ w) × (w < length words.now)) (S.state store.old) (S.state store.new) s) }
 {
@@ -81,6 +78,7 @@ fn key_id(words: &[String], script: &Script, operands: &[Operand]) -> [u8; 16]
     ensures { (files : Files) (planned : List bindings.Operand) → AreOperands (map string_bytes words.now) files operands.now planned
         → result ≡ bindings.first_key_id planned }
 {
+    // Tells that the script is sound.
     let _set = script.set();
     match first_key_id(operands) {
         Some(id) => id,
@@ -105,6 +103,7 @@ fn accepted_output(
     ensures reads { IfErr result (λ s. s ≢ Status.WriteFault) }
     ensures read { IfErr result (λ s. (word : ℕ) → s ≢ Status.ReadFault word) }
 {
+    // Tells that the script is sound.
     let _set = script.set();
     let Ok(bounds) = stated_bounds(alloc, ciphers) else {
         return Err(Status::Memory);
@@ -132,18 +131,8 @@ fn output_head(script: &Script, id: [u8; 16], bound: Bound) -> Head
     ensures is { result ≡ run_head script.now id bound }
     ensures rules { HeadKeepsRules result }
 {
-    let set = script.set();
-    let parts = script.parts(script.output());
-    let rows = parts as usize * set.data_count();
-    Head {
-        kind: FileKind::Cipher,
-        set,
-        parts,
-        element: 0,
-        id,
-        bound,
-        words: (rows * set.degree()) as u64,
-    }
+    let parts = script.register_shape(script.output() as usize).parts;
+    Head::of_cipher(script.set(), parts, id, bound)
 }
 
 /// Writes what a script gives on ciphers, whose files were scanned, and on values, which stand at
@@ -222,6 +211,7 @@ fn write_of_degree<S: Store, const N: usize>(
         → Wrote (word_at (map string_bytes words.now) 2) files (S.state store.new).files (IsRunOf (run_with script.now contents plains head.now)) result) }
     ensures cause { IfErr result (λ s. Caused (λ w. (3 ≤ w) × (w < length words.now)) (S.state store.old) (S.state store.new) s) }
 {
+    // Tells that the script is sound.
     let _set = script.set();
     let space = match executed::<S, N>(alloc, words, store, script, ciphers, operands, places) {
         Ok(space) => space,

@@ -8,18 +8,16 @@ ghost use Rattle.command_words.specs.Form.{form_of, IsOperand};
 ghost use Rattle.command_words.specs.declared.form.Form.TheVariants as form;
 ghost use Rattle.command_model.specs.Plan as plan;
 ghost use Rattle.command_model.specs.Batches.{NoCountFell};
-ghost use Rattle.bfv_commands.specs.BoundReads.{FitInputs};
-ghost use Rattle.bfv_commands.specs.Demands.{CiphersFit};
+ghost use Rattle.run_operands.specs.BoundReads.{FitInputs};
+ghost use Rattle.run_operands.specs.Demands.{CiphersFit};
 ghost use Rattle.bfv_commands.specs.RunStages.{RefusedInRun, AreMatched};
-ghost use Rattle.bfv_commands.specs.Stages.{Ran, Caused};
+ghost use Rattle.command_stages.specs.Stages.{Ran, Caused};
 
-use crate::bindings::match_bindings;
-use crate::bound_files::{Operand, read_operands};
-use crate::matching::match_operands;
-use crate::operand::read_script;
 use crate::run_output::write_run;
+use command_stages::read_script;
 use command_words::Status;
 use outer_io::Store;
+use run_operands::{Operand, match_bindings, match_operands, read_operands};
 use script_run::first_nonlinear;
 use script_text::{Script, ScriptPlace};
 use std::alloc::Global;
@@ -54,7 +52,7 @@ fn bound_script<S: Store>(alloc: Global, words: &[String], store: &mut S) -> Res
     ensures keeps { OnlyReads (S.state store.old) (S.state store.new) }
     ensures read { ForSome (S.state store.old).files (λ files. IfOk result (λ script. plan.script_operand (map string_bytes words.now) files 1 ≡ Ok script)) }
     ensures refused { ForSome (S.state store.old).files (λ files. IfErr result (RefusedInRun (map string_bytes words.now) files)) }
-    ensures built { IfOk result (λ script. plan.unbuilt script ≡ None) }
+    ensures built { IfOk result (λ script. plan.not_linear script ≡ None) }
     ensures linear { IfOk result (λ script. All (λ step. is_linear step.op ≡ true) script.steps) }
     ensures bound { IfOk result (λ script. plan.badly_bound script (map string_bytes words.now) ≡ None) }
     ensures cause { IfErr result (λ s. Caused (IsOperand form.Run (length (map string_bytes words.now))) (S.state store.old) (S.state store.new) s) }
@@ -77,9 +75,9 @@ fn bound_script<S: Store>(alloc: Global, words: &[String], store: &mut S) -> Res
 /// Whether each step of a script is linear. Products of ciphertexts and the switching of keys aren't
 /// built yet.
 fn match_steps(script: &Script) -> Result<(), Status>
-    ensures ok { OnOk result (plan.unbuilt script.now ≡ None) }
+    ensures ok { OnOk result (plan.not_linear script.now ≡ None) }
     ensures linear { OnOk result (All (λ step. is_linear step.op ≡ true) script.now.steps) }
-    ensures err { IfErr result (λ s. plan.unbuilt script.now ≡ Some s) }
+    ensures err { IfErr result (λ s. plan.not_linear script.now ≡ Some s) }
     ensures cause { IfErr result (λ s. (old : StoreState) (new : StoreState) → Caused (λ w. ⊥) old new s) }
     ensures reads { IfErr result (λ s. s ≢ Status.WriteFault) }
     ensures read { IfErr result (λ s. (word : ℕ) → s ≢ Status.ReadFault word) }
@@ -101,7 +99,7 @@ fn matched_operands<S: Store>(
 ) -> Result<Vec<Operand>, Status>
     requires low { 3 ≤ length words.now }
     requires high { length words.now ≤ 1000 }
-    requires built { plan.unbuilt script.now ≡ None }
+    requires built { plan.not_linear script.now ≡ None }
     requires bound { plan.badly_bound script.now (map string_bytes words.now) ≡ None }
     ensures keeps { OnlyReads (S.state store.old) (S.state store.new) }
     ensures matched { ForSome (S.state store.old).files (λ files. IfOk result (λ v. AreMatched (map string_bytes words.now) files script.now v.items)) }

@@ -1,11 +1,11 @@
 -- How bindings give the inputs of a script their files, and what a script is run on.
-use Rattle.std.specs.Prelude.{ℕ, ◌+◌, ◌*◌, if◌then◌else◌, List, [], ◌∷◌, ◌++◌, length, map, drop, position, slice_index_or, Option, Some, None, is_none, is_some, unwrap_or}
+use Rattle.std.specs.Prelude.{ℕ, ◌+◌, if◌then◌else◌, List, [], ◌∷◌, ◌++◌, length, map, drop, position, slice_index_or, Option, Some, None, is_none, is_some, unwrap_or}
 use Rattle.std.specs.Option.{option_map, option_or}
 use Rattle.std.specs.Str.{bytes_eq}
 use Rattle.set_table.specs.declared.SetName.TheVariants.{One16}
 use Rattle.bound_num.specs.declared.Bound.{Bound}
-use Rattle.bfv_model.specs.declared.file_kind.FileKind.TheVariants as kind
-use Rattle.bfv_model.specs.FileText.{FileContent}
+use Rattle.file_model.specs.declared.file_kind.FileKind.TheVariants as kind
+use Rattle.file_model.specs.FileText.{FileContent}
 use Rattle.script_text.specs.declared.script.Input.{Input}
 use Rattle.script_text.specs.declared.script.InputKind.{InputKind}
 use Rattle.script_text.specs.declared.script.InputKind.TheVariants.{Cipher}

@@ -1,5 +1,5 @@
 -- The plain machine: what files stand for, and what a command does to that. Nothing of noise, residues or keys is in a plain state.
-use Rattle.std.specs.Prelude.{◌≡◌, ℕ, ◌<◌, ◌^◌, Bool, ◌&&◌, ◌==◌, if◌then◌else◌, ◌+◌, ℤ, List, [], ◌∷◌, length, map, slice_get, All, Option, Some, None, Result, Ok, Err, option_and_then, unwrap_or}
+use Rattle.std.specs.Prelude.{◌≡◌, ℕ, ◌<◌, Bool, ◌&&◌, ◌==◌, if◌then◌else◌, ◌+◌, List, [], ◌∷◌, length, map, slice_get, All, Option, Some, None, Result, Ok, Err, option_and_then}
 use Rattle.std.specs.Option.{option_map}
 use Rattle.std.specs.Result.{result_ok}
 use Rattle.std.specs.Str.{bytes_eq}
@@ -9,9 +9,9 @@ use Rattle.set_table.specs.declared.KeyKind.{KeyKind}
 use Rattle.set_table.specs.Sets.{set_named, number_of, degree_of, plain_of, data_of, key_of}
 use Rattle.ring_law.specs.Sums.{values_below}
 use Rattle.bound_num.specs.Bound.{bound_value}
-use Rattle.bfv_model.specs.declared.file_kind.FileKind.{FileKind}
-use Rattle.bfv_model.specs.declared.file_kind.FileKind.TheVariants.{Secret, PublicKey, SwitchKey, Cipher}
-use Rattle.bfv_model.specs.FileText.{FileContent, IsFile}
+use Rattle.file_model.specs.declared.file_kind.FileKind.{FileKind}
+use Rattle.file_model.specs.declared.file_kind.FileKind.TheVariants.{Secret, PublicKey, SwitchKey, Cipher}
+use Rattle.file_model.specs.FileText.{FileContent, IsFile}
 use Rattle.bfv_model.specs.Drawn.{drawn_key_id, drawn_secret, greatest_error}
 use Rattle.bfv_model.specs.Holds.{CipherHolds, stored_word, secret_polynomial}
 use Rattle.bfv_model.specs.Keys.{WordsArePublicKeyOf, stored_key_word}

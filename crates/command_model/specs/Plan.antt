@@ -5,10 +5,10 @@ use Rattle.std.specs.Prelude.{◌≡◌, ℕ, ◌+◌, ◌-◌, ◌<◌, nat_lt,
 use Rattle.outer_io.specs.Store.{Files, file}
 use Rattle.set_table.specs.declared.SetName.{SetName}
 use Rattle.set_table.specs.Sets.{set_named, number_of, degree_of, plain_of, special_of}
-use Rattle.bfv_model.specs.declared.file_kind.FileKind.TheVariants as kind
-use Rattle.bfv_model.specs.FileText.{FileContent, IsFile, file_text}
+use Rattle.file_model.specs.declared.file_kind.FileKind.TheVariants as kind
+use Rattle.file_model.specs.FileText.{FileContent, IsFile, file_text}
 use Rattle.bfv_model.specs.Drawn.{stream_word, seed_stream, greatest_error}
-use Rattle.bfv_model.specs.DrawnFiles.{drawn_secret_file, drawn_public_file, drawn_cipher_file}
+use Rattle.file_model.specs.DrawnFiles.{drawn_secret_file, drawn_public_file, drawn_cipher_file}
 use Rattle.bfv_model.specs.NoiseBounds.{fresh_bound}
 use Rattle.bfv_model.specs.Slots.{slots_of}
 use Rattle.bound_num.specs.declared.Bound.{Bound}
@@ -20,19 +20,19 @@ use Rattle.script_text.specs.declared.faults.ScriptPlace.TheVariants.{Syntax}
 use Rattle.script_text.specs.declared.script.InputKind.{InputKind}
 use Rattle.script_text.specs.declared.script.InputKind.TheVariants as input
 use Rattle.script_text.specs.Reading.{values_of}
-use Rattle.script_text.specs.Scripts.{Script, needs_of, parts_of, is_linear}
+use Rattle.script_text.specs.Scripts.{Script, needs_of, shape_at, shapes_of, is_linear}
 use Rattle.script_text.specs.Grammar.{script_of}
 use Rattle.script_text.specs.Values.{printed_values}
 use Rattle.batch_text.specs.Commands.{commands_of}
 use Rattle.noise_check.specs.declared.verdict.Verdict.{Verdict}
 use Rattle.noise_check.specs.declared.verdict.Verdict.TheVariants as verdict
 use Rattle.noise_check.specs.Verdicts.{fresh_bounds, verdict_of}
-use Rattle.cipher_files.specs.Scan.{scanned}
-use Rattle.cipher_files.specs.declared.head.Wanted.{Wanted}
-use Rattle.cipher_files.specs.declared.head.Wanted.TheVariants.{Secret, Public, Cipher}
-use Rattle.cipher_files.specs.declared.faults.FileFault.{FileFault}
-use Rattle.cipher_files.specs.declared.faults.FileFault.TheVariants as fault
-use Rattle.cipher_files.specs.declared.faults.FileFault.TheVariants.{Missing, Failed, Kind}
+use Rattle.file_model.specs.Scan.{scanned}
+use Rattle.file_model.specs.declared.head.Wanted.{Wanted}
+use Rattle.file_model.specs.declared.head.Wanted.TheVariants.{Secret, Public, Cipher}
+use Rattle.file_model.specs.declared.faults.FileFault.{FileFault}
+use Rattle.file_model.specs.declared.faults.FileFault.TheVariants as fault
+use Rattle.file_model.specs.declared.faults.FileFault.TheVariants.{Missing, Failed, Kind}
 use Rattle.command_words.specs.Form.{form_of, out_word, binding_name, binding_file}
 use Rattle.command_words.specs.Line.{word_at, accepted_text}
 use Rattle.command_words.specs.declared.form.Form.{Form}
@@ -184,9 +184,9 @@ unless (Some refusal) result = Err refusal
 abbrev pub line_of_step : Script → ℕ → ℕ
 line_of_step script step = slice_index (map (λ s. s.line) script.steps) step
 
--- the first step that isn't linear is refused, as products of ciphers and the switching of keys aren't built
-abbrev pub unbuilt : Script → Option Status
-unbuilt script = option_map (λ step. BadScript (Syntax (line_of_step script step))) (position (λ step. not (is_linear step.op)) script.steps)
+-- the first step that isn't linear is refused: neither products of ciphers nor switched keys are run
+abbrev pub not_linear : Script → Option Status
+not_linear script = option_map (λ step. BadScript (Syntax (line_of_step script step))) (position (λ step. not (is_linear step.op)) script.steps)
 
 -- what is wrong with the bindings of `run`
 abbrev pub badly_bound : Script → List (List ℕ) → Option Status
@@ -257,7 +257,7 @@ run_on script names operands =
 -- `run SCRIPT OUT BINDING..`
 abbrev pub plan_of_run : List (List ℕ) → Files → Result Output Status
 plan_of_run words files =
-    and_then (script_operand words files 1) (λ script. unless (unbuilt script) (unless (badly_bound script words)
+    and_then (script_operand words files 1) (λ script. unless (not_linear script) (unless (badly_bound script words)
     (and_then (operands_from script files 3 (bindings_of words)) (run_on script (bound_names words)))))
 
 abbrev pub batch_or_fault : Result (List (List (List ℕ))) ScriptPlace → Result Output Status
@@ -291,7 +291,7 @@ plan words files = plan_of_form (form_of words) words files
 pub record IsBindingReached (words : List (List ℕ)) (files : Files) (word : ℕ) : Type 0 where
   pub script : Script
   pub read : script_operand words files 1 ≡ Ok script
-  pub built : unbuilt script ≡ None
+  pub built : not_linear script ≡ None
   pub well_bound : badly_bound script words ≡ None
   pub before : IsOk (operands_from script files 3 (take (word - 3) (bindings_of words)))
 
@@ -332,7 +332,7 @@ pub record IsRunFile (run : Run) (bytes : List ℕ) : Type 0 where
   pub states : content ≡ record {
     kind = kind.Cipher;
     set = run.script.set;
-    parts = slice_index (parts_of run.script.inputs run.script.steps) run.script.output;
+    parts = (shape_at (shapes_of run.script.inputs run.script.steps) run.script.output).parts;
     element = 0;
     key_id = run.key_id;
     mantissa = run.bound.m;

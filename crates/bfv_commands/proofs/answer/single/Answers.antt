@@ -6,9 +6,9 @@ use Rattle.std.specs.String.{string_bytes}
 use Rattle.command_words.specs.Form.{form_of, HasCount}
 use Rattle.command_words.proofs.Words.{operand_below}
 use Rattle.command_model.specs.Plan.{plan_of_form, out_name}
-use Rattle.bfv_commands.specs.Stages.{Announced, AreWritten}
+use Rattle.command_stages.specs.Stages.{Announced, AreWritten}
 use Rattle.bfv_commands.proofs.Answering.{answer_apart, cause_of_refusal, complete_answer}
-use Rattle.bfv_commands.proofs.Outputs.{told_announced, told_done, told_refused}
+use Rattle.command_stages.proofs.Outputs.{told_announced, told_done, told_refused}
 use Rattle.bfv_commands.proofs.Standing.{stands_after}
 use Rattle.bfv_commands.proofs.answer.single.Goals as goal
 

@@ -17,7 +17,7 @@ use Rattle.script_run.specs.Workspaces.{input_of, output_of, whole_context}
 use Rattle.command_model.specs.Plan.{stated_bounds}
 use Rattle.script_run.proofs.Plans.{still_made}
 use Rattle.script_run.proofs.Premises.{none_needed}
-use Rattle.bfv_commands.specs.BoundFiles.{MayBeBound}
+use Rattle.run_operands.specs.BoundFiles.{MayBeBound}
 use Rattle.bfv_commands.specs.Filled.{AreListed}
 use Rattle.bfv_commands.proofs.Executing.{AreRead, inputs_apart, inputs_carry, owner_ternary, zero_of_context}
 use Rattle.bfv_commands.proofs.execution.executed.Goals as goal

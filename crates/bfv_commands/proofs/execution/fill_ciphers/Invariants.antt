@@ -3,11 +3,11 @@ use Rattle.std.specs.Prelude.{slice_index_or}
 use Rattle.std.specs.Option.{ForSome}
 use Rattle.std.specs.String.{string_bytes}
 use Rattle.outer_io.specs.Store.{OnlyReads}
-use Rattle.bfv_model.specs.FileText.{FileContent}
+use Rattle.file_model.specs.FileText.{FileContent}
 use Rattle.bfv_params.specs.Ciphers.{IsCipherOf}
 use Rattle.script_run.specs.Workspaces.{input_of, whole_context}
 use Rattle.command_model.specs.Bindings.{no_content}
-use Rattle.bfv_commands.specs.BoundFiles.{AreHeld}
+use Rattle.run_operands.specs.BoundFiles.{AreHeld}
 use Rattle.bfv_commands.specs.Filled.{HasWordsOf}
 use Rattle.bfv_commands.proofs.execution.fill_ciphers.Given as goal
 

@@ -1,15 +1,25 @@
-use Rattle.std.proofs.Common.{◌*◌, ℕ, length, ap, ◌∙◌}
-use Rattle.std.specs.Prelude.{slice_index}
-use Rattle.set_table.specs.Sets.{data_of}
-use Rattle.script_text.specs.Scripts.{parts_of}
+use Rattle.std.proofs.Common.{ℕ, ap, refl, ◌∙◌}
+use Rattle.set_table.specs.declared.SetName.{SetName}
+use Rattle.file_model.specs.Heads.{made_head}
+use Rattle.file_model.specs.declared.file_kind.FileKind.TheVariants as kind
+use Rattle.script_text.specs.declared.script.Shape.{Shape}
+use Rattle.script_text.specs.Scripts.{shape_at, shapes_of}
 use Rattle.bfv_commands.proofs.RunOutputs.{run_head_rules}
 use Rattle.bfv_commands.proofs.run_output.output_head.Goals as goal
 
-pub returns-clause-rules : goal.returns-clause-rules
-returns-clause-rules c =
+pub of_cipher-requires : goal.of_cipher-requires
+of_cipher-requires c =
     let script = c.args.script.now in
-    let parts = c.parts-parts.result in
-    run_head_rules script c.set-set.result parts _ c.args.id c.args.bound c.set-set.ensures.sound c.set-set.ensures.value
-    (c.parts-parts.ensures ∙ ap (λ (r : ℕ). slice_index (parts_of script.inputs script.steps) r) c.output.ensures.value)
-    (ap (λ (rows : ℕ). parts * rows * c.degree.result) c.data_count.ensures ∙ ap (λ (n : ℕ). parts * length (data_of c.set-set.result) * n) c.degree.ensures)
-    c.requires
+    let parts_is = ap (λ (shape : Shape). shape.parts) c.register_shape-parts.ensures.value
+    ∙ ap (λ (r : ℕ). (shape_at (shapes_of script.inputs script.steps) r).parts) c.output.ensures.value in
+    let rules = run_head_rules script c.set.result c.register_shape-parts.result.parts _ c.args.id c.args.bound c.set.ensures.sound c.set.ensures.value parts_is refl c.requires in
+    record { parts = rules.parts; bound = rules.bound }
+
+pub returns-clause-is : goal.returns-clause-is
+returns-clause-is c =
+    let script = c.args.script.now in
+    let parts_is = ap (λ (shape : Shape). shape.parts) c.register_shape-parts.ensures.value
+    ∙ ap (λ (r : ℕ). (shape_at (shapes_of script.inputs script.steps) r).parts) c.output.ensures.value in
+    c.of_cipher.ensures.is
+    ∙ ap (λ (set : SetName). made_head kind.Cipher set c.register_shape-parts.result.parts 0 c.args.id c.args.bound) c.set.ensures.value
+    ∙ ap (λ (parts : ℕ). made_head kind.Cipher script.set parts 0 c.args.id c.args.bound) parts_is

@@ -9,9 +9,9 @@ use Rattle.noise_check.specs.ExactBounds.{exact_bounds}
 use Rattle.script_run.specs.Runs.{Carries}
 use Rattle.script_run.specs.Workspaces.{whole_context}
 use Rattle.command_model.specs.Plan.{stated_bounds}
-use Rattle.bfv_commands.specs.Stages.{Caused}
+use Rattle.command_stages.specs.Stages.{Caused}
 use Rattle.bfv_commands.proofs.RunOutputs.{wrote_run}
-use Rattle.bfv_commands.proofs.Running.{caused_by_write}
+use Rattle.command_stages.proofs.Running.{caused_by_write}
 use Rattle.bfv_commands.proofs.run_output.write_of_degree.Goals as goal
 
 pub returns-in-Err-clause-told : goal.returns-in-Err-clause-told

@@ -2,21 +2,21 @@ use Rattle.std.proofs.Common.{◌≡◌, inl, inr, ⊎_elim, ◌<◌, ◌≤◌,
 use Rattle.std.specs.Prelude.{slice_get, slice_index, Some, Ok}
 use Rattle.std.specs.String.{string_bytes}
 use Rattle.bound_num.specs.declared.Bound.{Bound}
-use Rattle.cipher_files.specs.declared.head.Head.{Head}
+use Rattle.file_model.specs.declared.head.Head.{Head}
 use Rattle.noise_check.specs.Numbers.{numbers}
 use Rattle.noise_check.specs.Verdicts.{verdict_of}
 use Rattle.command_words.specs.Line.{word_at}
 use Rattle.command_words.specs.declared.form.Form.TheVariants as form
 use Rattle.command_model.specs.Bindings.{bound_names, ciphers_of, plains_of}
 use Rattle.command_model.specs.Plan.{accepted, accepted_or_noisy, running, stated_bounds}
-use Rattle.bfv_commands.specs.BoundFiles.{AreHeld, MayBeBound}
+use Rattle.run_operands.specs.BoundFiles.{AreHeld, MayBeBound}
 use Rattle.bfv_commands.specs.Filled.{AreListed, IsListed}
 use Rattle.bfv_commands.specs.RunStages.{AreOfKey, bounds_of, run_with}
-use Rattle.bfv_commands.specs.declared.bound_files.BoundCipher.{BoundCipher}
-use Rattle.bfv_commands.proofs.Checking.{caused_by_no_call}
+use Rattle.run_operands.specs.declared.bound_files.BoundCipher.{BoundCipher}
+use Rattle.command_stages.proofs.Checking.{caused_by_no_call}
 use Rattle.bfv_commands.proofs.RunOutputs.{all_there, listed_there, listed_values, noisy_is, of_one_key, run_is, stated_of_held}
-use Rattle.bfv_commands.proofs.RunPlans.{by_verdict}
-use Rattle.bfv_commands.proofs.Running.{ran_refused, ran_written}
+use Rattle.command_stages.proofs.RunPlans.{by_verdict}
+use Rattle.command_stages.proofs.Running.{ran_refused, ran_written}
 use Rattle.bfv_commands.proofs.run_output.write_run.Goals as goal
 
 pub accepted_output-requires-clause-bound : goal.accepted_output-requires-clause-bound

@@ -4,8 +4,8 @@ use Rattle.command_words.specs.Form.{IsOperand}
 use Rattle.command_words.specs.Status.{parts_of}
 use Rattle.command_words.specs.declared.form.Form.TheVariants as form
 use Rattle.bfv_commands.proofs.InputNames.{binding_operand}
-use Rattle.bfv_commands.proofs.Decryptions.{caused_as}
-use Rattle.bfv_commands.proofs.RunPlans.{run_unread}
+use Rattle.key_commands.proofs.Decryptions.{caused_as}
+use Rattle.command_stages.proofs.RunPlans.{run_unread}
 use Rattle.bfv_commands.proofs.run_script.bound_script.Goals as goal
 
 pub returns-in-Err-clause-refused : goal.returns-in-Err-clause-refused

@@ -1,10 +1,10 @@
 use Rattle.std.proofs.Common.{◌≡◌, inl, inr, ⊎_elim, ◌+◌, ◌<◌, ◌≤◌, List, length, map, sym, ap, subst, arith}
 use Rattle.std.specs.String.{string_bytes}
 use Rattle.command_words.specs.Status.{parts_of}
-use Rattle.bfv_commands.specs.BoundFiles.{AreOperands}
-use Rattle.bfv_commands.specs.declared.bound_files.Operand.{Operand}
-use Rattle.bfv_commands.proofs.Decryptions.{caused_as}
-use Rattle.bfv_commands.proofs.RunPlans.{run_unbound, run_mismatched}
+use Rattle.run_operands.specs.BoundFiles.{AreOperands}
+use Rattle.run_operands.specs.declared.bound_files.Operand.{Operand}
+use Rattle.key_commands.proofs.Decryptions.{caused_as}
+use Rattle.command_stages.proofs.RunPlans.{run_unbound, run_mismatched}
 use Rattle.bfv_commands.proofs.run_script.matched_operands.Goals as goal
 
 pub returns-in-Err-clause-refused : goal.returns-in-Err-clause-refused

@@ -3,12 +3,12 @@ use Rattle.std.specs.String.{string_bytes}
 use Rattle.command_words.specs.Form.{IsOperand}
 use Rattle.command_words.specs.declared.form.Form.TheVariants as form
 use Rattle.std.proofs.lemmas.List.{length-map}
-use Rattle.bfv_commands.specs.Ordered.{CanRunOn}
+use Rattle.run_operands.specs.Ordered.{CanRunOn}
 use Rattle.bfv_commands.specs.RunStages.{AreMatched}
-use Rattle.bfv_commands.specs.declared.bound_files.Operand.{Operand}
+use Rattle.run_operands.specs.declared.bound_files.Operand.{Operand}
 use Rattle.bfv_commands.proofs.InputNames.{binding_operand}
-use Rattle.bfv_commands.proofs.Decryptions.{caused_as, caused_behind}
-use Rattle.bfv_commands.proofs.Running.{ran_refused}
+use Rattle.key_commands.proofs.Decryptions.{caused_as, caused_behind}
+use Rattle.command_stages.proofs.Running.{ran_refused}
 use Rattle.bfv_commands.proofs.run_script.run_script.Goals as goal
 
 pub write_run-requires-clause-matched : goal.write_run-requires-clause-matched

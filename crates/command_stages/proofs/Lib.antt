@@ -1,0 +1,10 @@
+pub mod Fronts
+pub mod Checking
+pub mod ValueTexts
+pub mod SeedFiles
+pub mod Scanning
+pub mod Steps
+pub mod RunPlans
+pub mod Outputs
+pub mod Running
+pub mod Planning

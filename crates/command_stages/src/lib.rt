@@ -1,0 +1,11 @@
+//! The stages of a command that read one operand: a head, a seed, values, a script; and what they say of
+//! their results.
+#![tactic(auto)]
+
+mod operand;
+mod scanned;
+mod seed;
+
+pub use operand::{name_of, read_script, read_values_named, read_values_operand};
+pub use scanned::{match_heads, scan_named, scan_operand, status_of};
+pub use seed::{SEED_BYTES, read_seed};

@@ -1,0 +1,4 @@
+pub mod FreshBounds
+pub mod DrawnContents
+pub mod Decryptions
+pub mod Sealing

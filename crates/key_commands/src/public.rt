@@ -1,0 +1,175 @@
+// The command `public`.
+ghost use Rattle.std.specs.Prelude.{◌≡◌, ◌≢◌, ◌<◌, ℕ, true, length, map, Some, None, OnErr, IfOk, IfErr};
+ghost use Rattle.std.specs.Option.{ForSome};
+ghost use Rattle.std.specs.String.{string_bytes};
+ghost use Rattle.outer_io.specs.Store.{OnlyReads};
+ghost use Rattle.set_table.specs.Sets.{degree_of, data_of};
+ghost use Rattle.ring_law.specs.Rows.{listed_polynomial};
+ghost use Rattle.bfv_model.specs.Drawn.{drawn_public};
+ghost use Rattle.file_model.specs.DrawnFiles.{drawn_public_file};
+ghost use Rattle.file_model.specs.FileText.{FileContent, file_text};
+ghost use Rattle.bfv_model.specs.Holds.{listed_word, secret_polynomial};
+ghost use Rattle.file_model.specs.Heads.{HeadKeepsRules, wants};
+ghost use Rattle.file_model.specs.declared.head.Wanted.TheVariants as wanted;
+ghost use Rattle.command_words.specs.Form.{form_of, IsOperand};
+ghost use Rattle.command_words.specs.Line.{word_at};
+ghost use Rattle.command_words.specs.declared.form.Form.TheVariants as form;
+ghost use Rattle.command_model.specs.Batches.{NoCountFell};
+ghost use Rattle.command_model.specs.Plan as plan;
+ghost use Rattle.command_stages.specs.Operands.{HasContent, Gives};
+ghost use Rattle.command_stages.specs.Stages.{Ran, Wrote, Caused};
+
+use crate::reread::secret_again;
+use crate::writing::write_status;
+use bfv_params::{Context, Public, Secret};
+use cipher_files::{Head, Wanted, write_public};
+use command_stages::{SEED_BYTES, name_of, read_seed, scan_operand};
+use command_words::Status;
+use outer_io::Store;
+use rand_chacha::ChaCha20Rng;
+use rand_core::SeedableRng;
+use rns_poly::PolyBuf;
+use set_table::SetName;
+use std::alloc::{AllocError, Global};
+
+/// Does `public SEC SEEDFILE OUT`.
+pub fn public<S: Store>(alloc: Global, words: &[String], store: &mut S) -> Result<(), Status>
+    requires form { form_of (map string_bytes words.now) ≡ Some form.Public }
+    requires count { length words.now ≡ 4 }
+    requires idle { (S.state store.old).pending ≡ None }
+    ensures idle { (S.state store.new).pending ≡ None }
+    ensures counts { NoCountFell (S.state store.old) (S.state store.new) }
+    ensures told { ForSome (S.state store.old).files (λ files. Ran form.Public (map string_bytes words.now) files (S.state store.new).files result) }
+    ensures unchanged { OnErr result ((S.state store.new).files ≡ (S.state store.old).files) }
+    ensures cause { IfErr result (λ s. Caused (IsOperand form.Public 4) (S.state store.old) (S.state store.new) s) }
+{
+    let secret = match scan_operand(store, words, Wanted::Secret, 1) {
+        Ok(secret) => secret,
+        Err(status) => return Err(status),
+    };
+    let seed = match read_seed(store, words, 2) {
+        Ok(seed) => seed,
+        Err(status) => return Err(status),
+    };
+    write_drawn(alloc, words, store, &secret, &seed)
+}
+
+/// Writes the file of the public key that a seed draws for a secret whose file was scanned.
+fn write_drawn<S: Store>(
+    alloc: Global,
+    words: &[String],
+    store: &mut S,
+    secret: &Head,
+    seed: &[u8; SEED_BYTES],
+) -> Result<(), Status>
+    requires count { length words.now ≡ 4 }
+    requires rules { HeadKeepsRules secret.now }
+    requires kind { wants wanted.Secret secret.now.kind ≡ true }
+    requires idle { (S.state store.old).pending ≡ None }
+    ensures idle { (S.state store.new).pending ≡ None }
+    ensures counts { NoCountFell (S.state store.old) (S.state store.new) }
+    ensures unchanged { OnErr result ((S.state store.new).files ≡ (S.state store.old).files) }
+    ensures told { ForSome (S.state store.old).files (λ files. (content : FileContent)
+        → HasContent (map string_bytes words.now) files 1 secret.now content
+        → Wrote (word_at (map string_bytes words.now) 3) files (S.state store.new).files
+        (λ bytes. bytes ≡ file_text (drawn_public_file content (plan.seed_word seed.now))) result) }
+    ensures cause { IfErr result (λ s. Caused (λ w. w ≡ 1) (S.state store.old) (S.state store.new) s) }
+{
+    match secret.set {
+        SetName::One16 | SetName::Toy16 => write_of_degree::<S, 16>(
+            alloc, words, store, secret, seed,
+        ),
+        SetName::S4096 => write_of_degree::<S, 4096>(alloc, words, store, secret, seed),
+        SetName::S8192 => write_of_degree::<S, 8192>(alloc, words, store, secret, seed),
+        SetName::S16384 => write_of_degree::<S, 16384>(alloc, words, store, secret, seed),
+    }
+}
+
+/// The same for a set of degree N.
+fn write_of_degree<S: Store, const N: usize>(
+    alloc: Global,
+    words: &[String],
+    store: &mut S,
+    secret: &Head,
+    seed: &[u8; SEED_BYTES],
+) -> Result<(), Status>
+    requires count { length words.now ≡ 4 }
+    requires rules { HeadKeepsRules secret.now }
+    requires kind { wants wanted.Secret secret.now.kind ≡ true }
+    requires degree { N ≡ degree_of secret.now.set }
+    requires idle { (S.state store.old).pending ≡ None }
+    ensures idle { (S.state store.new).pending ≡ None }
+    ensures counts { NoCountFell (S.state store.old) (S.state store.new) }
+    ensures unchanged { OnErr result ((S.state store.new).files ≡ (S.state store.old).files) }
+    ensures told { ForSome (S.state store.old).files (λ files. (content : FileContent)
+        → HasContent (map string_bytes words.now) files 1 secret.now content
+        → Wrote (word_at (map string_bytes words.now) 3) files (S.state store.new).files
+        (λ bytes. bytes ≡ file_text (drawn_public_file content (plan.seed_word seed.now))) result) }
+    ensures cause { IfErr result (λ s. Caused (λ w. w ≡ 1) (S.state store.old) (S.state store.new) s) }
+{
+    let public = match drawn_key::<S, N>(alloc, words, store, secret, seed) {
+        Ok(public) => public,
+        Err(status) => return Err(status),
+    };
+    let head = Head::of_public(secret.set, secret.id);
+    match write_public(store, name_of(words, 3), &head, &public) {
+        Ok(()) => Ok(()),
+        Err(fault) => Err(write_status(fault)),
+    }
+}
+
+/// The public key that a seed draws for that secret, which is read again.
+fn drawn_key<S: Store, const N: usize>(
+    alloc: Global,
+    words: &[String],
+    store: &mut S,
+    secret: &Head,
+    seed: &[u8; SEED_BYTES],
+) -> Result<Public<N>, Status>
+    requires count { length words.now ≡ 4 }
+    requires rules { HeadKeepsRules secret.now }
+    requires kind { wants wanted.Secret secret.now.kind ≡ true }
+    requires degree { N ≡ degree_of secret.now.set }
+    ensures keeps { OnlyReads (S.state store.old) (S.state store.new) }
+    ensures set { IfOk result (λ public. public.set ≡ secret.now.set) }
+    ensures told { ForSome (S.state store.old).files (λ files. (content : FileContent)
+        → HasContent (map string_bytes words.now) files 1 secret.now content
+        → Gives result (λ public. (part i k : ℕ) → part < 2 → i < length (data_of secret.now.set) → k < N
+        → listed_word (length (data_of secret.now.set)) public.rows part i k
+        ≡ drawn_public N (data_of secret.now.set) (secret_polynomial content.words) (plan.seed_word seed.now) part i k)) }
+    ensures cause { IfErr result (λ s. Caused (λ w. w ≡ 1) (S.state store.old) (S.state store.new) s) }
+    ensures reads { IfErr result (λ s. s ≢ Status.WriteFault) }
+{
+    let Ok(ctx) = Context::<N>::new(alloc, secret.set) else {
+        return Err(Status::Memory);
+    };
+    let source = match secret_again(alloc, words, store, &ctx, secret, 1) {
+        Ok(source) => source,
+        Err(status) => return Err(status),
+    };
+    match key_of(alloc, &ctx, &source, seed) {
+        Ok(public) => Ok(public),
+        Err(_) => Err(Status::Memory),
+    }
+}
+
+/// The public key that a seed draws for a secret.
+fn key_of<const N: usize>(
+    alloc: Global,
+    ctx: &Context<N>,
+    secret: &Secret<N>,
+    seed: &[u8; SEED_BYTES],
+) -> Result<Public<N>, AllocError>
+    requires level { (ctx.now).level ≡ length (data_of (ctx.now).set) }
+    requires set { (secret.now).set ≡ (ctx.now).set }
+    ensures set { IfOk result (λ public. public.set ≡ (ctx.now).set) }
+    ensures words { IfOk result (λ public. (part i k : ℕ) → part < 2 → i < length (data_of (ctx.now).set) → k < N →
+        listed_word (length (data_of (ctx.now).set)) public.rows part i k
+        ≡ drawn_public N (data_of (ctx.now).set) (listed_polynomial (secret.now).small) (plan.seed_word seed.now) part i k) }
+{
+    let mut public = Public::new(alloc, ctx)?;
+    let mut scratch = PolyBuf::new(alloc, ctx.scratch_rows())?;
+    let mut rng = ChaCha20Rng::from_seed(*seed);
+    key_make::public(ctx, secret, &mut public, &mut scratch, &mut rng);
+    Ok(public)
+}

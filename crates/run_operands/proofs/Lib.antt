@@ -1,0 +1,5 @@
+pub mod Places
+pub mod BoundReading
+pub mod BoundWords
+pub mod Demanded
+pub mod InOrder

@@ -1,0 +1,4 @@
+pub mod BoundFiles
+pub mod BoundReads
+pub mod Demands
+pub mod Ordered
