@@ -1,10 +1,8 @@
 //! The arithmetic of `words` on four words at once, one in each lane of a vector.
 
 ghost use Rattle.std.specs.Prelude.{◌≡◌, ℕ, ◌+◌, ◌-◌, ◌*◌, ◌/◌, ◌%◌, ◌^◌, ◌<◌, ◌≤◌, length, min, slice_index};
-ghost use Rattle.lane_rows.specs.Butterflies.{IsButterfly, IsButterflyBack};
 ghost use Rattle.lane_rows.specs.Lanes.{HasLanes, LanesBelow};
 
-use crate::words;
 use std::simd::prelude::*;
 
 /// The number of words that a vector holds.
@@ -157,23 +155,6 @@ fn scale_lazy(q: u64, w: u64, shoup: u64, x: u64x4) -> u64x4
     wrapped_difference(low_product(x, splat(w)), multiple)
 }
 
-/// As `words::scale_lazy`, word by word: the processor has a product of two words, and its lanes have not.
-#[inline(always)]
-fn scale_words(q: u64, w: u64, shoup: u64, x: u64x4) -> u64x4
-    requires modulus { (0 < q) × (q < 2 ^ 61) }
-    requires quotient { shoup ≡ w * 2 ^ 64 / q }
-    ensures congruent { (i : ℕ) → i < LANES → slice_index result i % q ≡ (w * slice_index x i) % q }
-    ensures below { LanesBelow (2 * q) result }
-{
-    let [a, b, c, d] = x.to_array();
-    u64x4::from_array([
-        words::scale_lazy(q, w, shoup, a),
-        words::scale_lazy(q, w, shoup, b),
-        words::scale_lazy(q, w, shoup, c),
-        words::scale_lazy(q, w, shoup, d),
-    ])
-}
-
 /// As `words::scale`.
 #[inline(always)]
 pub fn scale(q: u64, w: u64, shoup: u64, x: u64x4) -> u64x4
@@ -192,39 +173,4 @@ pub fn fold(q: u64, x: u64x4) -> u64x4
     ensures { HasLanes result (λ i. slice_index x i % q) }
 {
     reduce_once(q, reduce_once(2 * q, x))
-}
-
-/// As `words::butterfly`.
-#[inline(always)]
-pub fn butterfly(q: u64, w: u64, shoup: u64, x: u64x4, y: u64x4) -> (u64x4, u64x4)
-    requires modulus { (0 < q) × (q < 2 ^ 61) }
-    requires quotient { shoup ≡ w * 2 ^ 64 / q }
-    requires x_below { LanesBelow (4 * q) x }
-    ensures pairs { (i : ℕ) → i < LANES → IsButterfly q w (slice_index x i)
-        (slice_index y i) (slice_index result.0 i) (slice_index result.1 i) }
-    ensures sums_below { LanesBelow (4 * q) result.0 }
-    ensures differences_below { LanesBelow (4 * q) result.1 }
-{
-    let x = reduce_once(2 * q, x);
-    let product = scale_words(q, w, shoup, y);
-    (sum(x, product), difference(sum(x, splat(2 * q)), product))
-}
-
-/// As `words::butterfly_back`.
-#[inline(always)]
-pub fn butterfly_back(q: u64, w: u64, shoup: u64, x: u64x4, y: u64x4) -> (u64x4, u64x4)
-    requires modulus { (0 < q) × (q < 2 ^ 61) }
-    requires quotient { shoup ≡ w * 2 ^ 64 / q }
-    requires x_below { LanesBelow (2 * q) x }
-    requires y_below { LanesBelow (2 * q) y }
-    ensures pairs { (i : ℕ) → i < LANES → IsButterflyBack q w (slice_index x i)
-        (slice_index y i) (slice_index result.0 i) (slice_index result.1 i) }
-    ensures sums_below { LanesBelow (2 * q) result.0 }
-    ensures differences_below { LanesBelow (2 * q) result.1 }
-{
-    let raised = sum(x, splat(2 * q));
-    (
-        reduce_once(2 * q, sum(x, y)),
-        scale_words(q, w, shoup, difference(raised, y)),
-    )
 }

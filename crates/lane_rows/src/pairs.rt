@@ -1,16 +1,10 @@
 //! Butterflies: the steps of the number-theoretic transform, on the pairs of words of two rows.
-//!
-//! A function whose name ends in `_chunks` goes over the whole chunks of the rows alone, and answers how many
-//! words these have.
 
-ghost use Rattle.std.specs.Prelude.{◌≡◌, ℕ, ◌+◌, ◌*◌, ◌/◌, ◌%◌, ◌^◌, ◌<◌, ◌≤◌, length, slice_index};
-ghost use Rattle.std.specs.List.{SameFrom};
+ghost use Rattle.std.specs.Prelude.{◌≡◌, ◌≢◌, ℕ, ◌+◌, ◌*◌, ◌/◌, ◌%◌, ◌^◌, ◌<◌, ◌≤◌, length, slice_index};
 ghost use Rattle.lane_rows.specs.Butterflies.{IsButterfly, IsButterflyBack};
 ghost use Rattle.lane_rows.specs.Rows.{RowBelow};
 
-use crate::lanes::{LANES, load};
-use crate::{lanes, words};
-use std::simd::prelude::*;
+use crate::{UNROLLED, words};
 
 /// Replaces each pair (x, y) of words below 4q, x from `lo` and y from `hi`, by words below 4q that are
 /// congruent to x + w * y and x - w * y modulo q.
@@ -24,35 +18,34 @@ pub fn butterflies(q: u64, w: u64, shoup: u64, lo: &mut [u64], hi: &mut [u64])
     ensures lo_below { RowBelow (4 * q) lo.new }
     ensures hi_below { RowBelow (4 * q) hi.new }
 {
-    let whole = butterfly_chunks(q, w, shoup, lo, hi);
-    for i in whole..lo.len() {
-        let (sum, difference) = words::butterfly(q, w, shoup, lo[i], hi[i]);
-        lo[i] = sum;
-        hi[i] = difference;
+    let chunks = lo.len() / UNROLLED;
+    'chunks: for k in 0..chunks {
+        'places: for r in 0..UNROLLED {
+            step(q, w, shoup, UNROLLED * k + r, lo, hi);
+        }
+    }
+    'rest: for i in UNROLLED * chunks..lo.len() {
+        step(q, w, shoup, i, lo, hi);
     }
 }
 
-fn butterfly_chunks(q: u64, w: u64, shoup: u64, lo: &mut [u64], hi: &mut [u64]) -> usize
+/// The pair at one place.
+#[inline(always)]
+fn step(q: u64, w: u64, shoup: u64, i: usize, lo: &mut [u64], hi: &mut [u64])
     requires modulus { (0 < q) × (q < 2 ^ 61) }
     requires quotient { shoup ≡ w * 2 ^ 64 / q }
-    requires lengths { length lo.old ≡ length hi.old }
-    requires lo_below { RowBelow (4 * q) lo.old }
-    ensures whole { result ≡ length lo.old / LANES * LANES }
-    ensures pairs { (i : ℕ) → i < result → IsButterfly q w (slice_index lo.old i)
-        (slice_index hi.old i) (slice_index lo.new i) (slice_index hi.new i) }
-    ensures lo_below { (i : ℕ) → i < result → slice_index lo.new i < 4 * q }
-    ensures hi_below { (i : ℕ) → i < result → slice_index hi.new i < 4 * q }
-    ensures lo_rest { SameFrom lo.old lo.new result }
-    ensures hi_rest { SameFrom hi.old hi.new result }
+    requires lo_inside { i < length lo.old }
+    requires hi_inside { i < length hi.old }
+    requires below { slice_index lo.old i < 4 * q }
+    ensures pair { IsButterfly q w (slice_index lo.old i) (slice_index hi.old i) (slice_index lo.new i) (slice_index hi.new i) }
+    ensures lo_below { slice_index lo.new i < 4 * q }
+    ensures hi_below { slice_index hi.new i < 4 * q }
+    ensures lo_others { (j : ℕ) → j ≢ i → slice_index lo.new j ≡ slice_index lo.old j }
+    ensures hi_others { (j : ℕ) → j ≢ i → slice_index hi.new j ≡ slice_index hi.old j }
 {
-    let chunks = lo.len() / LANES;
-    for k in 0..chunks {
-        let from = LANES * k;
-        let (sums, differences) = lanes::butterfly(q, w, shoup, load(lo, from), load(hi, from));
-        sums.copy_to_slice(&mut lo[from..]);
-        differences.copy_to_slice(&mut hi[from..]);
-    }
-    chunks * LANES
+    let (sum, difference) = words::butterfly(q, w, shoup, lo[i], hi[i]);
+    lo[i] = sum;
+    hi[i] = difference;
 }
 
 /// Replaces each pair (x, y) of words below 2q, x from `lo` and y from `hi`, by words below 2q that are
@@ -68,40 +61,33 @@ pub fn butterflies_back(q: u64, w: u64, shoup: u64, lo: &mut [u64], hi: &mut [u6
     ensures lo_below { RowBelow (2 * q) lo.new }
     ensures hi_below { RowBelow (2 * q) hi.new }
 {
-    let whole = butterfly_back_chunks(q, w, shoup, lo, hi);
-    for i in whole..lo.len() {
-        let (sum, difference) = words::butterfly_back(q, w, shoup, lo[i], hi[i]);
-        lo[i] = sum;
-        hi[i] = difference;
+    let chunks = lo.len() / UNROLLED;
+    'chunks: for k in 0..chunks {
+        'places: for r in 0..UNROLLED {
+            step_back(q, w, shoup, UNROLLED * k + r, lo, hi);
+        }
+    }
+    'rest: for i in UNROLLED * chunks..lo.len() {
+        step_back(q, w, shoup, i, lo, hi);
     }
 }
 
-fn butterfly_back_chunks(q: u64, w: u64, shoup: u64, lo: &mut [u64], hi: &mut [u64]) -> usize
+/// The pair at one place, on the way back.
+#[inline(always)]
+fn step_back(q: u64, w: u64, shoup: u64, i: usize, lo: &mut [u64], hi: &mut [u64])
     requires modulus { (0 < q) × (q < 2 ^ 61) }
     requires quotient { shoup ≡ w * 2 ^ 64 / q }
-    requires lengths { length lo.old ≡ length hi.old }
-    requires lo_below { RowBelow (2 * q) lo.old }
-    requires hi_below { RowBelow (2 * q) hi.old }
-    ensures whole { result ≡ length lo.old / LANES * LANES }
-    ensures pairs { (i : ℕ) → i < result → IsButterflyBack q w (slice_index lo.old i)
-        (slice_index hi.old i) (slice_index lo.new i) (slice_index hi.new i) }
-    ensures lo_below { (i : ℕ) → i < result → slice_index lo.new i < 2 * q }
-    ensures hi_below { (i : ℕ) → i < result → slice_index hi.new i < 2 * q }
-    ensures lo_rest { SameFrom lo.old lo.new result }
-    ensures hi_rest { SameFrom hi.old hi.new result }
+    requires lo_inside { i < length lo.old }
+    requires hi_inside { i < length hi.old }
+    requires lo_below { slice_index lo.old i < 2 * q }
+    requires hi_below { slice_index hi.old i < 2 * q }
+    ensures pair { IsButterflyBack q w (slice_index lo.old i) (slice_index hi.old i) (slice_index lo.new i) (slice_index hi.new i) }
+    ensures lo_below { slice_index lo.new i < 2 * q }
+    ensures hi_below { slice_index hi.new i < 2 * q }
+    ensures lo_others { (j : ℕ) → j ≢ i → slice_index lo.new j ≡ slice_index lo.old j }
+    ensures hi_others { (j : ℕ) → j ≢ i → slice_index hi.new j ≡ slice_index hi.old j }
 {
-    let chunks = lo.len() / LANES;
-    for k in 0..chunks {
-        let from = LANES * k;
-        let (sums, differences) = lanes::butterfly_back(
-            q,
-            w,
-            shoup,
-            load(lo, from),
-            load(hi, from),
-        );
-        sums.copy_to_slice(&mut lo[from..]);
-        differences.copy_to_slice(&mut hi[from..]);
-    }
-    chunks * LANES
+    let (sum, difference) = words::butterfly_back(q, w, shoup, lo[i], hi[i]);
+    lo[i] = sum;
+    hi[i] = difference;
 }

@@ -9,7 +9,7 @@ pub fn reduce_once(bound: u64, x: u64) -> u64
     requires { x < 2 * bound }
     ensures { result ≡ x % bound }
 {
-    if x >= bound { x - bound } else { x }
+    x.min(x.wrapping_sub(bound))
 }
 
 /// The residue of the sum of two residues.

@@ -1,11 +1,19 @@
-use Rattle.std.proofs.Common.{◌≤◌, arith}
-use Rattle.lane_rows.proofs.Stores.{PairsTo-set}
+use Rattle.std.proofs.Common.{◌+◌, ◌*◌, ◌≤◌, arith}
+use Rattle.lane_rows.proofs.Stores.{PairsTo-more}
 use Rattle.lane_rows.proofs.pairs.butterflies.Goals as goal
 
-pub loop-i-preserved : goal.loop-i-preserved
-loop-i-preserved c =
-    let before = c.loop-i.invariant in
-    let step = c.butterfly-sum.ensures in
-    let place : c.loop-i.i ≤ c.loop-i.i = omega arith in
-    let pair = rw (before.xs_rest c.loop-i.i 0 place, before.ys_rest c.loop-i.i 0 place) at step.pair in
-    PairsTo-set _ _ _ _ _ c.loop-i.i _ _ (omega arith) (omega arith) before (pair, step.sum_below, step.difference_below)
+pub places-preserved : goal.places-preserved
+places-preserved c =
+    let before = c.places.invariant in
+    let place : 4 * c.chunks.k + c.places.r ≤ 4 * c.chunks.k + c.places.r = omega arith in
+    let pair = rw (before.xs_rest (4 * c.chunks.k + c.places.r) place, before.ys_rest (4 * c.chunks.k + c.places.r) place) at c.step.ensures.pair in
+    PairsTo-more _ _ _ _ _ _ _ (4 * c.chunks.k + c.places.r) _ (omega arith) before (pair, c.step.ensures.lo_below, c.step.ensures.hi_below) c.step.ensures.lo_others
+    c.step.ensures.hi_others
+
+pub rest-preserved : goal.rest-preserved
+rest-preserved c =
+    let before = c.rest.invariant in
+    let place : c.rest.i ≤ c.rest.i = omega arith in
+    let pair = rw (before.xs_rest (c.rest.i) place, before.ys_rest (c.rest.i) place) at c.step-in-rest.ensures.pair in
+    PairsTo-more _ _ _ _ _ _ _ (c.rest.i) _ (omega arith) before (pair, c.step-in-rest.ensures.lo_below, c.step-in-rest.ensures.hi_below) c.step-in-rest.ensures.lo_others
+    c.step-in-rest.ensures.hi_others
