@@ -1,10 +1,10 @@
--- Rows in which the first blocks are done, and blocks that are put together from their halves.
-use Rattle.std.proofs.Common.{◌≡◌, ℕ, ◌+◌, ◌-◌, ◌*◌, ◌<◌, ◌≤◌, List, ◌++◌, take, drop, length, get_or, arith, refl, sym, ap, ◌∙◌, subst, ⊎_elim, length-drop, length-append, mul-le-mul_right}
-use Rattle.std.proofs.lemmas.List.{get_or_append_left, get_or-append_right, get_or-take, get_or-drop, length-take}
+-- Rows in which the first parts are done, and blocks that are put together from their halves.
+use Rattle.std.proofs.Common.{◌≡◌, ℕ, ◌+◌, ◌-◌, ◌*◌, ◌<◌, ◌≤◌, List, ◌++◌, take, drop, length, get_or, arith, refl, sym, ap, ◌∙◌, subst, ⊎_elim, length-drop, length-append, mul-le-mul_right, drop-drop, take_at}
+use Rattle.std.proofs.lemmas.List.{get_or_append_left, get_or-append_right, get_or-take, get_or-drop, length-take, drop-take, drop_at}
+use Rattle.std.proofs.lemmas.Slice.{take-put_mid_below, drop-put_mid}
 use Rattle.std.proofs.lemmas.Bool.{cases_lt}
-use Rattle.std.specs.List.{SameFrom}
 use Rattle.lane_rows.specs.Rows.{RowBelow}
-use Rattle.neg_ntt.specs.Butterflies.{EachBlock, EachPair}
+use Rattle.neg_ntt.specs.Butterflies.{EachBlock, EachPair, EachPart}
 use borrow.Rule.Slice.PartMut.{put_mid, mid_of}
 
 -- a block of two halves, each pair of whose words became the pair of words of two rows
@@ -21,6 +21,67 @@ EachPair-append P half old low high new_low new_high is_low is_high len pairs r 
     let whole = pairs r inside in
     let pair = rw (before, after) at whole in
     rw (get_or_append_left new_low new_high 0 r in_low, get_or-append_right new_low new_high (length new_low) (half + r) 0 refl past, place) pair
+
+-- a word of a part of a row
+pub part_word : (width start : ℕ) (xs : List ℕ) (r : ℕ) → r < width → get_or (take width (drop start xs)) r 0 ≡ get_or xs (start + r) 0
+part_word width start xs r inside = get_or-take width (drop start xs) r 0 inside ∙ get_or-drop start xs r 0
+
+-- what holds of the pairs of each part holds of those of each block
+pub EachBlock-parts : (P : ℕ → ℕ → ℕ → ℕ → ℕ → Type 0) (count half : ℕ) (old new : List ℕ)
+    → EachPart (λ i. EachPair (P i) half) count (2 * half) old new → EachBlock P count half old new
+EachBlock-parts P count half old new parts i r below inside =
+    let low : r < 2 * half = omega arith in
+    let high : half + r < 2 * half = omega arith in
+    let pair = parts i below r inside in
+    rw (part_word (2 * half) (i * (2 * half)) old r low, part_word (2 * half) (i * (2 * half)) old (half + r) high,
+      part_word (2 * half) (i * (2 * half)) new r low, part_word (2 * half) (i * (2 * half)) new (half + r) high) at pair
+
+-- in a row that first was as told, P holds of the parts before part i, and the row from it on is as it was
+pub record PartsDone (P : ℕ → List ℕ → List ℕ → Type 0) (width : ℕ) (first row : List ℕ) (i : ℕ) : Type 0 where
+  pub done : EachPart P i width first row
+  pub rest : drop (i * width) row ≡ drop (i * width) first
+
+pub PartsDone-none : (P : ℕ → List ℕ → List ℕ → Type 0) (width : ℕ) (row : List ℕ) → PartsDone P width row row 0
+PartsDone-none P width row = record { done = λ j l. absurd (omega arith); rest = refl }
+
+module _ (P : ℕ → List ℕ → List ℕ → Type 0) (width : ℕ) (first row block : List ℕ) (i start k : ℕ) (at_part : start ≡ i * width)
+    (is_whole : k ≡ width) (within : start + k ≤ length row) (len : length block ≡ k) (before : PartsDone P width first row i)
+    (here : P i (mid_of start k row) block) where
+  -- an earlier part
+  earlier : (j : ℕ) → j < i → take width (drop (j * width) (put_mid start k row block)) ≡ take width (drop (j * width) row)
+  earlier j below =
+      let room : j * width + width ≤ start = (let m = mul-le-mul_right width below in omega arith) in
+      sym (drop-take (j * width) width (put_mid start k row block))
+      ∙ ap (drop (j * width)) (take-put_mid_below start k row block (j * width + width) room (omega arith)) ∙ drop-take (j * width) width row
+
+  -- the part that was written
+  written : take k (drop start (put_mid start k row block)) ≡ block
+  written =
+      let size : length (take start row) ≡ start = omega (arith, length-take start row) in
+      ap (take k) (drop_at (take start row) (block ++ drop k (drop start row)) start size) ∙ take_at block (drop k (drop start row)) k len
+
+  here_first : P i (take width (drop (i * width) first)) (take width (drop (i * width) (put_mid start k row block)))
+  here_first =
+      subst (λ w. P i (take w (drop (i * width) first)) (take w (drop (i * width) (put_mid start k row block)))) is_whole
+      (rw (← before.rest, ← at_part, written) here)
+
+  later : drop ((i + 1) * width) (put_mid start k row block) ≡ drop ((i + 1) * width) first
+  later =
+      let end : start + k ≤ (i + 1) * width = omega arith in
+      let next : i * width + width ≡ (i + 1) * width = omega arith in
+      drop-put_mid start k row block ((i + 1) * width) end (omega arith) len ∙ ap (λ n. drop n row) (sym next) ∙ sym (drop-drop width (i * width) row)
+      ∙ ap (drop width) before.rest ∙ drop-drop width (i * width) first ∙ ap (λ n. drop n first) next
+
+  pub PartsDone-put_mid : PartsDone P width first (put_mid start k row block) (i + 1)
+  PartsDone-put_mid = record {
+    done = λ j below. ⊎_elim
+        (λ (l : j < i). subst (λ part. P j (take width (drop (j * width) first)) part) (sym (earlier j l)) (before.done j l))
+        (λ (l : i ≤ j).
+        let same : i ≡ j = omega arith in
+        subst (λ j. P j (take width (drop (j * width) first)) (take width (drop (j * width) (put_mid start k row block)))) same here_first)
+        (cases_lt j i);
+    rest = later;
+  }
 
 -- an element before a part that was written
 get_or-put_mid_before : (a k : ℕ) (xs ys : List ℕ) (j d : ℕ) → a ≤ length xs → j < a → get_or (put_mid a k xs ys) j d ≡ get_or xs j d
@@ -50,55 +111,6 @@ get_or-put_mid_after a k xs ys j d within len after =
     ∙ get_or-drop k (drop a xs) (j - length (take a xs) - length ys) d
     ∙ get_or-drop a xs (k + (j - length (take a xs) - length ys)) d
     ∙ ap (λ i. get_or xs i d) place
-
--- in a row that first was as told, P holds of the blocks before block i, and the words from it on are as they were
-pub record BlocksDone (P : ℕ → ℕ → ℕ → ℕ → ℕ → Type 0) (half : ℕ) (first row : List ℕ) (i : ℕ) : Type 0 where
-  pub done : EachBlock P i half first row
-  pub rest : SameFrom first row (i * (2 * half))
-
-module _ (P : ℕ → ℕ → ℕ → ℕ → ℕ → Type 0) (half : ℕ) (first row block : List ℕ) (i start k : ℕ) (at_block : start ≡ i * (2 * half))
-    (is_whole : k ≡ 2 * half) (within : start + k ≤ length row) (len : length block ≡ k) (before : BlocksDone P half first row i)
-    (pairs : EachPair (P i) half (mid_of start k row) block) where
-  -- a word of the block as it was at first
-  first_word : (r : ℕ) → r < k → get_or (mid_of start k row) r 0 ≡ get_or first (i * (2 * half) + r) 0
-  first_word r inside =
-      get_or-take k (drop start row) r 0 inside ∙ get_or-drop start row r 0 ∙ before.rest (start + r) 0 (omega (arith, at_block))
-      ∙ ap (λ s. get_or first (s + r) 0) at_block
-
-  new_word : (r : ℕ) → r < k → get_or (put_mid start k row block) (i * (2 * half) + r) 0 ≡ get_or block r 0
-  new_word r inside =
-      ap (λ s. get_or (put_mid start k row block) (s + r) 0) (sym at_block) ∙ get_or-put_mid_at start k row block r 0 (omega arith) (omega arith)
-
-  -- the block that was written is done too
-  here : (r : ℕ) → r < half → P i (get_or first (i * (2 * half) + r) 0) (get_or first (i * (2 * half) + (half + r)) 0)
-      (get_or (put_mid start k row block) (i * (2 * half) + r) 0) (get_or (put_mid start k row block) (i * (2 * half) + (half + r)) 0)
-  here r inside =
-      let low : r < k = omega arith in
-      let high : half + r < k = omega arith in
-      let pair = pairs r inside in
-      let turned = rw (first_word r low, first_word (half + r) high) at pair in
-      rw (new_word r low, new_word (half + r) high) turned
-
-  earlier : (j r : ℕ) → j < i → r < 2 * half → get_or (put_mid start k row block) (j * (2 * half) + r) 0 ≡ get_or row (j * (2 * half) + r) 0
-  earlier j r below inside =
-      let m = mul-le-mul_right (2 * half) below in
-      get_or-put_mid_before start k row block (j * (2 * half) + r) 0 (omega arith) (omega arith)
-
-  pub BlocksDone-put_mid : BlocksDone P half first (put_mid start k row block) (i + 1)
-  BlocksDone-put_mid = record {
-    done = λ j r below inside. ⊎_elim
-        (λ (l : j < i).
-        let pair = before.done j r l inside in
-        rw (earlier j r l (omega arith), earlier j (half + r) l (omega arith)) pair)
-        (λ (l : i ≤ j).
-        let same : i ≡ j = omega arith in
-        subst (λ j. P j (get_or first (j * (2 * half) + r) 0) (get_or first (j * (2 * half) + (half + r)) 0)
-        (get_or (put_mid start k row block) (j * (2 * half) + r) 0) (get_or (put_mid start k row block) (j * (2 * half) + (half + r)) 0)) same (here r inside))
-        (cases_lt j i);
-    rest = λ j d after.
-        let past : start + k ≤ j = omega arith in
-        get_or-put_mid_after start k row block j d (omega arith) len past ∙ before.rest j d (omega arith);
-  }
 
 -- after a write to a part, each word is below a bound where those of the row and of the part are
 pub RowBelow-put_mid : (bound a k : ℕ) (xs ys : List ℕ) → a + k ≤ length xs → length ys ≡ k → RowBelow bound xs → RowBelow bound ys

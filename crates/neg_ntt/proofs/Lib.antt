@@ -1,4 +1,5 @@
 pub mod Blocks
+pub mod MiddleRows
 pub mod PowersReversed
 pub mod LayerValues
 pub mod Steps

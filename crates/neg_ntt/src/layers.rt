@@ -1,14 +1,14 @@
 //! Layers of the transform: a row is cut into blocks of equal length, and the two halves of a block are the rows of its
 //! pairs.
 
-ghost use Rattle.std.specs.Prelude.{◌≡◌, ◌*◌, length};
-ghost use Rattle.lane_rows.specs.Butterflies.{IsButterfly, IsButterflyBack};
+ghost use Rattle.std.specs.Prelude.{◌≡◌, ◌+◌, ◌*◌, length};
+ghost use Rattle.lane_rows.specs.Butterflies.{EachFour, IsButterfly, IsButterflyBack, TwoLayers, TwoLayersBack};
 ghost use Rattle.lane_rows.specs.Rows.{RowBelow};
 ghost use Rattle.word_mod.specs.Moduli.{IsModulus, shoup_of};
-ghost use Rattle.neg_ntt.specs.Butterflies.{EachPair, EachBlock};
+ghost use Rattle.neg_ntt.specs.Butterflies.{ByMiddleRow, EachBlock, EachPair, EachPart};
 ghost use Rattle.neg_ntt.specs.Roots.{HaveQuotients, factor_at};
 
-use lane_rows::{butterflies, butterflies_back};
+use lane_rows::{Root, butterflies, butterflies_back, butterflies_back_twice, butterflies_twice};
 use word_mod::Factor;
 
 fn forward_block(q: u64, root: &Factor, half: usize, block: &mut [u64])
@@ -66,5 +66,126 @@ pub fn inverse_layer(q: u64, roots: &[Factor], half: usize, row: &mut [u64])
         let end = start + 2 * half;
         inverse_block(q, root, half, &mut row[start..end]);
         start = end;
+    }
+}
+
+/// Two layers at once: takes each block of `4 * quarter` words, in words below 4q, apart into two by the roots `outer`, and
+/// these into four by the roots `inner`. Where a quarter is short the compiler makes code for its length, without a loop.
+pub fn forward_two_layers(
+    q: u64,
+    outer: &[Factor],
+    inner: &[Factor],
+    quarter: usize,
+    row: &mut [u64],
+)
+    requires modulus { IsModulus q }
+    requires outer_quotients { HaveQuotients q outer.now }
+    requires inner_quotients { HaveQuotients q inner.now }
+    requires twice_as_many { length inner.now ≡ 2 * length outer.now }
+    requires blocks { length row.old ≡ length outer.now * (4 * quarter) }
+    requires below { RowBelow (4 * q) row.old }
+    ensures layers { ByMiddleRow (EachBlock (λ i. IsButterfly q (factor_at outer.now i).w) (length outer.now) (2 * quarter))
+        (EachBlock (λ i. IsButterfly q (factor_at inner.now i).w) (length inner.now) quarter) row.old row.new }
+    ensures below { RowBelow (4 * q) row.new }
+{
+    match quarter {
+        1 => forward_blocks(q, outer, inner, 1, row),
+        4 => forward_blocks(q, outer, inner, 4, row),
+        _ => forward_blocks(q, outer, inner, quarter, row),
+    }
+}
+
+/// The same, with the layers of each block told.
+#[inline(always)]
+fn forward_blocks(
+    q: u64,
+    outer: &[Factor],
+    inner: &[Factor],
+    quarter: usize,
+    row: &mut [u64],
+)
+    requires modulus { IsModulus q }
+    requires outer_quotients { HaveQuotients q outer.now }
+    requires inner_quotients { HaveQuotients q inner.now }
+    requires twice_as_many { length inner.now ≡ 2 * length outer.now }
+    requires blocks { length row.old ≡ length outer.now * (4 * quarter) }
+    requires below { RowBelow (4 * q) row.old }
+    ensures fours { EachPart (λ i. EachFour (TwoLayers (IsButterfly q (factor_at outer.now i).w)
+        (IsButterfly q (factor_at inner.now (2 * i)).w) (IsButterfly q (factor_at inner.now (2 * i + 1)).w)) quarter)
+        (length outer.now) (4 * quarter) row.old row.new }
+    ensures below { RowBelow (4 * q) row.new }
+{
+    let mut start = 0;
+    for i in 0..outer.len() {
+        let end = start + 4 * quarter;
+        let (first, second) = (root_of(&inner[2 * i]), root_of(&inner[2 * i + 1]));
+        butterflies_twice(q, root_of(&outer[i]), first, second, quarter, &mut row[start..end]);
+        start = end;
+    }
+}
+
+/// Two layers at once: joins each four blocks of `quarter` words, in words below 2q, to two by the roots `inner`, and these to
+/// one by the roots `outer`. Where a quarter is short the compiler makes code for its length, without a loop.
+pub fn inverse_two_layers(
+    q: u64,
+    outer: &[Factor],
+    inner: &[Factor],
+    quarter: usize,
+    row: &mut [u64],
+)
+    requires modulus { IsModulus q }
+    requires outer_quotients { HaveQuotients q outer.now }
+    requires inner_quotients { HaveQuotients q inner.now }
+    requires twice_as_many { length inner.now ≡ 2 * length outer.now }
+    requires blocks { length row.old ≡ length outer.now * (4 * quarter) }
+    requires below { RowBelow (2 * q) row.old }
+    ensures layers { ByMiddleRow (EachBlock (λ i. IsButterflyBack q (factor_at inner.now i).w) (length inner.now) quarter)
+        (EachBlock (λ i. IsButterflyBack q (factor_at outer.now i).w) (length outer.now) (2 * quarter)) row.old row.new }
+    ensures below { RowBelow (2 * q) row.new }
+{
+    match quarter {
+        1 => inverse_blocks(q, outer, inner, 1, row),
+        4 => inverse_blocks(q, outer, inner, 4, row),
+        _ => inverse_blocks(q, outer, inner, quarter, row),
+    }
+}
+
+/// The same, with the layers of each block told.
+#[inline(always)]
+fn inverse_blocks(
+    q: u64,
+    outer: &[Factor],
+    inner: &[Factor],
+    quarter: usize,
+    row: &mut [u64],
+)
+    requires modulus { IsModulus q }
+    requires outer_quotients { HaveQuotients q outer.now }
+    requires inner_quotients { HaveQuotients q inner.now }
+    requires twice_as_many { length inner.now ≡ 2 * length outer.now }
+    requires blocks { length row.old ≡ length outer.now * (4 * quarter) }
+    requires below { RowBelow (2 * q) row.old }
+    ensures fours { EachPart (λ i. EachFour (TwoLayersBack (IsButterflyBack q (factor_at outer.now i).w)
+        (IsButterflyBack q (factor_at inner.now (2 * i)).w) (IsButterflyBack q (factor_at inner.now (2 * i + 1)).w)) quarter)
+        (length outer.now) (4 * quarter) row.old row.new }
+    ensures below { RowBelow (2 * q) row.new }
+{
+    let mut start = 0;
+    for i in 0..outer.len() {
+        let end = start + 4 * quarter;
+        let (first, second) = (root_of(&inner[2 * i]), root_of(&inner[2 * i + 1]));
+        butterflies_back_twice(q, root_of(&outer[i]), first, second, quarter, &mut row[start..end]);
+        start = end;
+    }
+}
+
+#[inline(always)]
+fn root_of(factor: &Factor) -> Root
+    ensures w { result.w ≡ factor.now.w }
+    ensures shoup { result.shoup ≡ factor.now.shoup }
+{
+    Root {
+        w: factor.w,
+        shoup: factor.shoup,
     }
 }
