@@ -9,8 +9,10 @@ use Rattle.word_mod.specs.declared.Factor.{Factor}
 use Rattle.word_mod.specs.Moduli.{shoup_of}
 use Rattle.ring_law.specs.Transform.{bit_reversal}
 use Rattle.ring_law.proofs.BitReversal.{bit_reversal_top}
-use Rattle.neg_ntt.specs.Roots.{ArePowersReversed, factor_at, factor_of}
 use Rattle.neg_ntt.specs.Butterflies.{EachBlock}
+use Rattle.neg_ntt.specs.Layers.{AreLayerRoots}
+use Rattle.neg_ntt.specs.Parameters.{Parameters, layer_root}
+use Rattle.neg_ntt.specs.Roots.{ArePowersReversed, HaveQuotients, factor_at, factor_of}
 
 -- with d more digits, which are 0
 bit_reversal_wider : (d k j : ℕ) → j < 2 ^ k → bit_reversal (d + k) j ≡ 2 ^ d * bit_reversal k j
@@ -131,14 +133,26 @@ layer_factor q k x n d s i table digits size powers below =
     inside : 2 ^ s + i < 2 ^ (d + suc s)
     inside = let p = pow_pos d in let h = mul-le-mul_right (2 ^ suc s) p in subst (λ n. 2 ^ s + i < n) (sym (pow-add 2 d (suc s))) (omega arith)
 
--- what a layer did, told by the powers that its factors are
-pub EachBlock-layer : (B : ℕ → ℕ → ℕ → ℕ → ℕ → Type 0) (q k x n d s half : ℕ) (table factors : List Factor) (old new : List ℕ) → d + suc s ≡ k → n ≡ 2 ^ k
-    → ArePowersReversed q k x n table → factors ≡ take (2 ^ s) (drop (2 ^ s) table) → length factors ≡ 2 ^ s → half ≡ 2 ^ d
-    → EachBlock (λ i. B (factor_at factors i).w) (length factors) half old new
-    → EachBlock (λ i. B (x ^ (2 ^ d * (2 * bit_reversal s i + 1)) % q)) (2 ^ s) (2 ^ d) old new
-EachBlock-layer B q k x n d s half table factors old new digits size powers are count half_is pairs i r below inside =
-    let same = subst (λ h. EachBlock (λ i. B (factor_at factors i).w) (2 ^ s) h old new) half_is
-    (subst (λ c. EachBlock (λ i. B (factor_at factors i).w) c half old new) count pairs) in
-    let factor = ap (λ fs. factor_at fs i) are ∙ layer_factor q k x n d s i table digits size powers below in
-    subst (λ w. B w (get_or old (i * (2 * 2 ^ d) + r) 0) (get_or old (i * (2 * 2 ^ d) + (2 ^ d + r)) 0)
-    (get_or new (i * (2 * 2 ^ d) + r) 0) (get_or new (i * (2 * 2 ^ d) + (2 ^ d + r)) 0)) (ap (λ f. f.w) factor) (same i r below inside)
+-- the factors of a layer in the table
+pub AreLayerRoots-table : (t : Parameters) (x n s : ℕ) (table factors : List Factor) → s < t.log_degree → n ≡ 2 ^ t.log_degree
+    → ArePowersReversed t.modulus t.log_degree x n table → factors ≡ take (2 ^ s) (drop (2 ^ s) table) → length factors ≡ 2 ^ s → AreLayerRoots t x s factors
+AreLayerRoots-table t x n s table factors layer size powers are count =
+    let digits : t.log_degree - suc s + suc s ≡ t.log_degree = omega arith in
+    record {
+      len = count;
+      at = λ i below.
+          ap (λ fs. factor_at fs i) are ∙ layer_factor t.modulus t.log_degree x n (t.log_degree - suc s) s i table digits size powers below;
+    }
+
+module _ (t : Parameters) (x s : ℕ) (factors : List Factor) (roots : AreLayerRoots t x s factors) where
+  pub AreLayerRoots-quotients : HaveQuotients t.modulus factors
+  AreLayerRoots-quotients i inside =
+      let factor = roots.at i (subst (λ n. i < n) roots.len inside) in
+      ap (λ f. f.shoup) factor ∙ ap (shoup_of t.modulus) (sym (ap (λ f. f.w) factor))
+
+  -- what a layer did, told by the powers that its factors are
+  pub EachBlock-layer : (B : ℕ → ℕ → ℕ → ℕ → ℕ → Type 0) (half : ℕ) (old new : List ℕ) → EachBlock (λ i. B (factor_at factors i).w) (length factors) half old new
+      → EachBlock (λ i. B (layer_root x t s i)) (2 ^ s) half old new
+  EachBlock-layer B half old new pairs i r below inside =
+      subst (λ w. B w (get_or old (i * (2 * half) + r) 0) (get_or old (i * (2 * half) + (half + r)) 0) (get_or new (i * (2 * half) + r) 0)
+      (get_or new (i * (2 * half) + (half + r)) 0)) (ap (λ f. f.w) (roots.at i below)) (pairs i r (subst (λ n. i < n) (sym roots.len) below) inside)

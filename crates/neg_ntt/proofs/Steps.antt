@@ -16,6 +16,7 @@ use Rattle.ring_law.proofs.TransformEntries.{polynomial_of_entries, transform_en
 use Rattle.ring_law.proofs.TransformLayers.{block_value, block_value_first, block_value_last}
 use Rattle.lane_rows.specs.Butterflies.{IsButterfly, IsButterflyBack}
 use Rattle.neg_ntt.specs.Butterflies.{EachBlock}
+use Rattle.neg_ntt.specs.Layers.{IsJoined, IsSplit}
 use Rattle.neg_ntt.specs.Parameters.{AreParameters, IsDegree, Parameters}
 use Rattle.neg_ntt.proofs.LayerValues.{AreBlocks, AreBlocks-next, AreBlocks-previous}
 
@@ -122,15 +123,22 @@ length-layer table factors n k s len size below are =
     let within = layer_within k s below in
     ap length are ∙ omega (arith, length-take (2 ^ s) (drop (2 ^ s) table), length-drop (2 ^ s) table)
 
--- half a block by division
-pub layer_half_is : (n k s : ℕ) → n ≡ 2 ^ k → s < k → n / 2 ^ (s + 1) ≡ 2 ^ (k - suc s)
-layer_half_is n k s size below =
-    ap₂ (λ a b. a / b) (size ∙ sym (layer_size k s below) ∙ swap (2 ^ s) (2 ^ (k - suc s))) (double s)
-    ∙ mul-div_cancel (2 ^ (k - suc s)) (let p = pow_pos s in omega arith)
-  where
-    swap : (a b : ℕ) → a * (2 * b) ≡ b * (2 * a)
-    swap a b = omega arith
+-- the row of a layer
+pub layer_row : (n k s count half len : ℕ) → len ≡ n → n ≡ 2 ^ k → s < k → count ≡ 2 ^ s → half ≡ 2 ^ (k - suc s) → len ≡ count * (2 * half)
+layer_row n k s count half len is_len size below is_count is_half =
+    is_len ∙ size ∙ sym (layer_size k s below) ∙ ap₂ (λ count half. count * (2 * half)) (sym is_count) (sym is_half)
 
+-- the quarters of a block are the halves of its halves
+pub two_quarters : (k s quarter : ℕ) → s + 1 < k → quarter ≡ 2 ^ (k - suc (s + 1)) → 2 * quarter ≡ 2 ^ (k - suc s)
+two_quarters k s quarter below is_quarter = ap (λ q. 2 * q) is_quarter ∙ sym (layer_width k (s + 1) below) ∙ ap (λ e. 2 ^ e) (one k s)
+  where
+    one : (k s : ℕ) → k - (s + 1) ≡ k - suc s
+    one k s = omega arith
+
+-- and there are twice as many of these
+pub twice_as_many : (s inner outer : ℕ) → outer ≡ 2 ^ s → inner ≡ 2 ^ (s + 1) → inner ≡ 2 * outer
+twice_as_many s inner outer is_outer is_inner = is_inner ∙ double s ∙ ap (λ p. 2 * p) (sym is_outer)
+  where
     double : (s : ℕ) → 2 ^ (s + 1) ≡ 2 * 2 ^ s
     double s = ap (λ e. 2 ^ e) (next s) ∙ twice s
       where
@@ -284,6 +292,22 @@ residue-AreBlocks q x k n w a row r positive size is_inverse blocks below =
 pub AreParameters-minus_one : (n : ℕ) (t : Parameters) → AreParameters n t → Congruent t.modulus (pos (t.root ^ (2 ^ t.log_degree))) (neg_ℤ (pos 1))
 AreParameters-minus_one n t fit =
     subst (λ n. Congruent t.modulus (pos (t.root ^ n)) (neg_ℤ (pos 1))) fit.power (Congruent-minus_one t.modulus (t.root ^ n) fit.modulus.from_three fit.minus_one)
+
+module _ (n : ℕ) (t : Parameters) (fit : AreParameters n t) (a : ℕ → ℤ) (old new : List ℕ) where
+  -- a layer forward
+  pub AreBlocks-layer : (s : ℕ) → s < t.log_degree → IsSplit t s old new → AreBlocks t.modulus t.root s (2 ^ (t.log_degree - s)) 1 a old
+      → AreBlocks t.modulus t.root (s + 1) (2 ^ (t.log_degree - (s + 1))) 1 a new
+  AreBlocks-layer s below pairs before =
+      AreBlocks-split t.modulus t.root t.log_degree n s 1 (omega (arith, fit.modulus.from_three)) (AreParameters-minus_one n t fit) below a old new pairs before
+
+  -- a layer back
+  pub AreBlocks-layer_back : (s : ℕ) → s < t.log_degree → IsJoined n t s old new
+      → AreBlocks t.modulus t.root (suc s) (2 ^ (t.log_degree - suc s)) (2 ^ (t.log_degree - suc s)) a old
+      → AreBlocks t.modulus t.root s (2 ^ (t.log_degree - s)) (2 ^ (t.log_degree - s)) a new
+  AreBlocks-layer_back s below pairs before =
+      subst (λ m. AreBlocks t.modulus t.root s (2 ^ (t.log_degree - s)) m a new) (sym (layer_width t.log_degree s below))
+      (AreBlocks-join t.modulus t.root t.log_degree n s (2 ^ (t.log_degree - suc s)) (omega (arith, fit.modulus.from_three)) (AreParameters-minus_one n t fit) below a
+      old new fit.power pairs before)
 
 -- a row of reduced words that holds the residues of each polynomial with the given transform has that transform itself
 pub IsTransform-from_unique : (q x k w : ℕ) (entries new : List ℕ) → 0 < q → Congruent q (pos (x ^ (2 ^ k))) (neg_ℤ (pos 1)) → w * 2 ^ k % q ≡ 1

@@ -1,4 +1,5 @@
 pub mod Butterflies
+pub mod Layers
 pub mod Parameters
 pub mod Roots
 pub mod Tables

@@ -3,11 +3,11 @@
 ghost use Rattle.std.specs.Prelude.{◌≡◌, ℕ, ℤ, ◌+◌, ◌-◌, ◌*◌, ◌%◌, ◌^◌, ◌<◌, ◌≤◌, ◌≢◌, ◌↔◌, List, length, slice_index, take, drop, IfOk, Err};
 ghost use Rattle.ring_law.specs.Rows.{IsReduced, RowRepresents, row_polynomial};
 ghost use Rattle.lane_rows.specs.Rows.{RowBelow};
-ghost use Rattle.lane_rows.specs.Butterflies.{IsButterfly, IsButterflyBack};
-ghost use Rattle.neg_ntt.specs.Butterflies.{EachBlock};
-ghost use Rattle.neg_ntt.specs.Parameters.{AreParameters, IsDegree, IsTransformBy, inverse_root, layer_half, layer_root};
+ghost use Rattle.neg_ntt.specs.Butterflies.{ByMiddleRow};
+ghost use Rattle.neg_ntt.specs.Layers.{AreLayerRoots, IsJoined, IsSplit};
+ghost use Rattle.neg_ntt.specs.Parameters.{AreParameters, IsDegree, IsTransformBy, inverse_root, layer_half};
 
-use crate::layers::{forward_layer, inverse_layer};
+use crate::layers::{forward_layer, forward_two_layers, inverse_layer, inverse_two_layers};
 use crate::roots::powers_reversed;
 use lane_rows::{fold_row, scale_row_in_place};
 use std::alloc::{AllocError, Global};
@@ -107,8 +107,15 @@ impl<const N: usize> Transform<N> {
         ensures transform { (a : ℕ → ℤ) → RowRepresents N self.now.modulus row.old a → IsTransformBy self.now row.new a }
         ensures reduced { IsReduced N self.now.modulus row.new }
     {
-        for s in 0..self.log_degree {
-            self.split_blocks(s, row);
+        let mut s = 0;
+        while s < self.log_degree {
+            if (self.log_degree - s) % 2 == 1 {
+                self.split_blocks(s, row);
+                s += 1;
+            } else {
+                self.split_twice(s, row);
+                s += 2;
+            }
         }
         fold_row(self.modulus.value(), row);
     }
@@ -123,8 +130,13 @@ impl<const N: usize> Transform<N> {
     {
         let mut s = self.log_degree;
         while s > 0 {
-            s -= 1;
-            self.join_blocks(s, row);
+            if s == 1 {
+                s = 0;
+                self.join_blocks(s, row);
+            } else {
+                s -= 2;
+                self.join_twice(s, row);
+            }
         }
         let Factor { w, shoup } = self.inverse_degree;
         scale_row_in_place(self.modulus.value(), w, shoup, row);
@@ -135,12 +147,25 @@ impl<const N: usize> Transform<N> {
         requires layer { s < self.now.log_degree }
         requires len { length row.old ≡ N }
         requires below { RowBelow (4 * self.now.modulus) row.old }
-        ensures pairs { EachBlock (λ i. IsButterfly self.now.modulus (layer_root self.now.root self.now s i))
-            (2 ^ s) (layer_half self.now s) row.old row.new }
+        ensures pairs { IsSplit self.now s row.old row.new }
         ensures below { RowBelow (4 * self.now.modulus) row.new }
     {
-        let roots = layer_factors(&self.roots, s);
-        forward_layer(self.modulus.value(), roots, N >> (s + 1), row);
+        let q = self.modulus().value();
+        forward_layer(q, self.layer_roots(s), self.layer_half(s), row);
+    }
+
+    /// The two layers that make four blocks of each of `2^s`.
+    fn split_twice(&self, s: u32, row: &mut [u64])
+        requires layers { s + 1 < self.now.log_degree }
+        requires len { length row.old ≡ N }
+        requires below { RowBelow (4 * self.now.modulus) row.old }
+        ensures layers { ByMiddleRow (IsSplit self.now s) (IsSplit self.now (s + 1)) row.old row.new }
+        ensures below { RowBelow (4 * self.now.modulus) row.new }
+    {
+        let q = self.modulus().value();
+        let next = s + 1;
+        let (outer, inner) = (self.layer_roots(s), self.layer_roots(next));
+        forward_two_layers(q, outer, inner, self.layer_half(next), row);
     }
 
     /// The layer that makes `2^s` blocks, each of two.
@@ -148,12 +173,50 @@ impl<const N: usize> Transform<N> {
         requires layer { s < self.now.log_degree }
         requires len { length row.old ≡ N }
         requires below { RowBelow (2 * self.now.modulus) row.old }
-        ensures pairs { EachBlock (λ i. IsButterflyBack self.now.modulus (layer_root (inverse_root N self.now) self.now s i))
-            (2 ^ s) (layer_half self.now s) row.old row.new }
+        ensures pairs { IsJoined N self.now s row.old row.new }
         ensures below { RowBelow (2 * self.now.modulus) row.new }
     {
-        let roots = layer_factors(&self.inverse_roots, s);
-        inverse_layer(self.modulus.value(), roots, N >> (s + 1), row);
+        let q = self.modulus().value();
+        inverse_layer(q, self.inverse_layer_roots(s), self.layer_half(s), row);
+    }
+
+    /// The two layers that make `2^s` blocks, each of four.
+    fn join_twice(&self, s: u32, row: &mut [u64])
+        requires layers { s + 1 < self.now.log_degree }
+        requires len { length row.old ≡ N }
+        requires below { RowBelow (2 * self.now.modulus) row.old }
+        ensures layers { ByMiddleRow (IsJoined N self.now (s + 1)) (IsJoined N self.now s) row.old row.new }
+        ensures below { RowBelow (2 * self.now.modulus) row.new }
+    {
+        let q = self.modulus().value();
+        let next = s + 1;
+        let (outer, inner) = (self.inverse_layer_roots(s), self.inverse_layer_roots(next));
+        inverse_two_layers(q, outer, inner, self.layer_half(next), row);
+    }
+
+    /// The roots of the layer with `2^s` blocks.
+    fn layer_roots(&self, s: u32) -> &[Factor]
+        requires layer { s < self.now.log_degree }
+        ensures { AreLayerRoots self.now self.now.root s result.now }
+    {
+        layer_factors(&self.roots, s)
+    }
+
+    /// Their inverses.
+    fn inverse_layer_roots(&self, s: u32) -> &[Factor]
+        requires layer { s < self.now.log_degree }
+        ensures { AreLayerRoots self.now (inverse_root N self.now) s result.now }
+    {
+        layer_factors(&self.inverse_roots, s)
+    }
+
+    /// Half the length of a block where there are `2^s`.
+    fn layer_half(&self, s: u32) -> usize
+        requires layer { s < self.now.log_degree }
+        ensures { result ≡ layer_half self.now s }
+    {
+        let digits = self.log_degree - (s + 1);
+        1 << digits
     }
 }
 

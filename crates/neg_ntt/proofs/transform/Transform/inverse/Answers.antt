@@ -1,7 +1,7 @@
-use Rattle.std.proofs.Common.{◌≡◌, ℕ, suc, ◌-◌, ◌*◌, ◌%◌, ◌^◌, ◌<◌, length, arith, sym, subst, ap, ◌∙◌, get_or}
+use Rattle.std.proofs.Common.{◌≡◌, ℕ, suc, ◌+◌, ◌-◌, ◌*◌, ◌%◌, ◌^◌, ◌<◌, length, arith, sym, subst, ap, ◌∙◌, get_or}
 use Rattle.neg_ntt.specs.Tables.{AreTables}
 use Rattle.neg_ntt.proofs.LayerValues.{AreBlocks}
-use Rattle.neg_ntt.proofs.Steps.{AreBlocks-last, AreBlocks-join, AreParameters-minus_one, IsTransform-from_unique, layer_width, residue-AreBlocks}
+use Rattle.neg_ntt.proofs.Steps.{AreBlocks-last, AreBlocks-layer_back, AreParameters-minus_one, IsTransform-from_unique, residue-AreBlocks}
 use Rattle.neg_ntt.proofs.transform.Transform.inverse.Goals as goal
 
 pub loop-s-init : goal.loop-s-init
@@ -18,24 +18,42 @@ loop-s-init g c =
           (AreBlocks-last t.modulus t.root t.log_degree a c.args.row.now (omega (arith, tables.parameters.modulus.from_three)) entries);
     }
 
+pub loop-s-preserved-then-s-eq1 : goal.loop-s-preserved-then-s-eq1
+loop-s-preserved-then-s-eq1 g c =
+    let t = c.args.self.now in
+    let tables = subst (λ t. AreTables g.row.N t c.self.inside.roots.items c.self.inside.inverse_roots.items c.self.inside.inverse_degree) c.self.view_is c.self.invariant in
+    let before = c.loop-s.invariant in
+    let one : c.loop-s.s ≡ suc 0 = omega (arith, c.if-s-eq1.true) in
+    let layer : 0 < t.log_degree = omega (arith, before.within, one) in
+    record {
+      within = omega arith;
+      len = omega (arith, before.len);
+      below = c.join_blocks.ensures.below;
+      blocks = λ a entries.
+          AreBlocks-layer_back g.row.N t tables.parameters a c.loop-s.row c.join_blocks.new.row 0 layer c.join_blocks.ensures.pairs
+          (subst (λ s. AreBlocks t.modulus t.root s (2 ^ (t.log_degree - s)) (2 ^ (t.log_degree - s)) a c.loop-s.row) one (before.blocks a entries));
+    }
+
 pub loop-s-preserved : goal.loop-s-preserved
 loop-s-preserved g c =
     let t = c.args.self.now in
     let tables = subst (λ t. AreTables g.row.N t c.self.inside.roots.items c.self.inside.inverse_roots.items c.self.inside.inverse_degree) c.self.view_is c.self.invariant in
     let before = c.loop-s.invariant in
-    let k = t.log_degree in
-    let s : ℕ = c.loop-s.s - 1 in
-    let layer : s < k = omega (arith, before.within, c.loop-s-test.true) in
-    let next : c.loop-s.s ≡ suc s = omega (arith, c.loop-s-test.true) in
+    let layers = c.join_twice.ensures.layers in
+    let s : ℕ = c.loop-s.s - 2 in
+    let last : c.loop-s.s ≡ suc (s + 1) = omega (arith, c.loop-s-test.true, c.if-s-eq1.false) in
+    let next : s + 1 < t.log_degree = omega (arith, before.within, last) in
+    let first : s < t.log_degree = omega arith in
+    let one : s + 1 ≡ suc s = omega arith in
     record {
-      within = omega (arith, before.within);
-      len = omega arith;
-      below = c.join_blocks.ensures.below;
+      within = omega arith;
+      len = omega (arith, before.len);
+      below = c.join_twice.ensures.below;
       blocks = λ a entries.
-          subst (λ m. AreBlocks t.modulus t.root s (2 ^ (k - s)) m a c.join_blocks.new.row) (sym (layer_width k s layer))
-          (AreBlocks-join t.modulus t.root k g.row.N s (2 ^ (k - suc s)) (omega (arith, tables.parameters.modulus.from_three))
-          (AreParameters-minus_one g.row.N t tables.parameters) layer a c.loop-s.row c.join_blocks.new.row tables.parameters.power c.join_blocks.ensures.pairs
-          (subst (λ s. AreBlocks t.modulus t.root s (2 ^ (k - s)) (2 ^ (k - s)) a c.loop-s.row) next (before.blocks a entries)));
+          AreBlocks-layer_back g.row.N t tables.parameters a layers.middle c.join_twice.new.row s first layers.second
+          (subst (λ s. AreBlocks t.modulus t.root s (2 ^ (t.log_degree - s)) (2 ^ (t.log_degree - s)) a layers.middle) one
+          (AreBlocks-layer_back g.row.N t tables.parameters a c.loop-s.row layers.middle (s + 1) next layers.first
+          (subst (λ s. AreBlocks t.modulus t.root s (2 ^ (t.log_degree - s)) (2 ^ (t.log_degree - s)) a c.loop-s.row) last (before.blocks a entries))));
     }
 
 pub returns-clause-unique : goal.returns-clause-unique
