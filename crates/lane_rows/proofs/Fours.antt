@@ -1,8 +1,8 @@
 -- Words at one place of each quarter of a block.
-use Rattle.std.proofs.Common.{◌≡◌, ◌≢◌, ℕ, ◌+◌, ◌*◌, ◌<◌, ◌≤◌, ◌∙◌, List, length, get_or, set, arith, refl, subst, sym, ⊎_elim, below_more, get_or-set_other, get_or-set_same}
-use Rattle.std.proofs.lemmas.Bool.{cases_eq}
+use Rattle.std.proofs.Common.{◌≡◌, ◌≢◌, ℕ, ◌+◌, ◌-◌, ◌*◌, ◌<◌, ◌≤◌, ◌∙◌, List, length, get_or, set, arith, refl, subst, sym, ⊎_elim, below_more, get_or-set_other, get_or-set_same}
+use Rattle.std.proofs.lemmas.Bool.{cases_eq, cases_lt}
 use Rattle.std.proofs.lemmas.List.{length-set}
-use Rattle.lane_rows.specs.Butterflies.{EachFour, FourAt}
+use Rattle.lane_rows.specs.Butterflies.{EachFour, FourAt, FourBelow}
 use Rattle.lane_rows.specs.Rows.{RowBelow}
 
 -- a row with one word replaced
@@ -53,6 +53,14 @@ module _ (xs : List ℕ) (quarter i a b c d : ℕ) (len : length xs ≡ 4 * quar
       RowBelow-set bound _ (3 * quarter + i) d (omega (arith, len_three)) d_below
       (RowBelow-set bound _ (2 * quarter + i) c (omega (arith, len_two)) c_below
       (RowBelow-set bound _ (quarter + i) b (omega (arith, len_one)) b_below (RowBelow-set bound xs i a (omega arith) a_below before)))
+
+  pub FourBelow-set : (bound : ℕ) → a < bound → b < bound → c < bound → d < bound → FourBelow bound quarter i four_set
+  FourBelow-set bound a_below b_below c_below d_below = record {
+    a = rw is_a a_below;
+    b = rw is_b b_below;
+    c = rw is_c c_below;
+    d = rw is_d d_below;
+  }
 
   pub four_set_others : (j : ℕ) → j ≢ i → j ≢ quarter + i → j ≢ 2 * quarter + i → j ≢ 3 * quarter + i → get_or four_set j 0 ≡ get_or xs j 0
   four_set_others j not_a not_b not_c not_d =
@@ -107,3 +115,18 @@ FoursDone-more P bound quarter first old new n inside before here below others =
 pub FoursDone-at : (P : ℕ → ℕ → ℕ → ℕ → ℕ → ℕ → ℕ → ℕ → Type 0) (bound quarter : ℕ) (first block : List ℕ) (n m : ℕ) → n ≡ m
     → FoursDone P bound quarter first block n → FoursDone P bound quarter first block m
 FoursDone-at P bound quarter first block n m same done = subst (λ n. FoursDone P bound quarter first block n) same done
+
+-- all words of a block are below a bound where those of each place are
+pub RowBelow-fours : (bound quarter : ℕ) (block : List ℕ) → length block ≡ 4 * quarter → ((i : ℕ) → i < quarter → FourBelow bound quarter i block)
+    → RowBelow bound block
+RowBelow-fours bound quarter block len each j inside =
+    ⊎_elim (λ (l : j < quarter). (each j l).a)
+    (λ (g : quarter ≤ j). ⊎_elim (λ (l : j < 2 * quarter). at quarter (omega arith) (each (j - quarter) (omega arith)).b)
+    (λ (g : 2 * quarter ≤ j). ⊎_elim (λ (l : j < 3 * quarter). at (2 * quarter) (omega arith) (each (j - 2 * quarter) (omega arith)).c)
+    (λ (g : 3 * quarter ≤ j). at (3 * quarter) (omega arith) (each (j - 3 * quarter) (omega arith)).d)
+    (cases_lt j (3 * quarter)))
+    (cases_lt j (2 * quarter)))
+    (cases_lt j quarter)
+  where
+    at : (start : ℕ) → start + (j - start) ≡ j → get_or block (start + (j - start)) 0 < bound → get_or block j 0 < bound
+    at start place below = subst (λ j. get_or block j 0 < bound) place below

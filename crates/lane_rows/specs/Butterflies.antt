@@ -13,6 +13,11 @@ pub record IsButterflyBack (q w x y sum difference : ℕ) : Type 0 where
   pub adds : sum % q ≡ (x + y) % q
   pub subtracts : (difference + w * y) % q ≡ (w * x) % q
 
+-- The same step, with both results multiplied by a factor s: w is that of the difference with s in it.
+pub record IsScaledButterflyBack (q s w x y sum difference : ℕ) : Type 0 where
+  pub adds : sum % q ≡ (s * (x + y)) % q
+  pub subtracts : (difference + w * y) % q ≡ (w * x) % q
+
 -- a root has its quotient modulo q
 abbrev pub HasQuotient : ℕ → Root → Type 0
 HasQuotient q root = root.shoup ≡ root.w * 2 ^ 64 / q
@@ -49,3 +54,10 @@ FourAt P quarter i old new =
 -- and of those at each place
 abbrev pub EachFour : (ℕ → ℕ → ℕ → ℕ → ℕ → ℕ → ℕ → ℕ → Type 0) → ℕ → List ℕ → List ℕ → Type 0
 EachFour P quarter old new = (i : ℕ) → i < quarter → FourAt P quarter i old new
+
+-- the words at place i of the quarters are below a bound
+pub record FourBelow (bound quarter i : ℕ) (block : List ℕ) : Type 0 where
+  pub a : slice_index block i < bound
+  pub b : slice_index block (quarter + i) < bound
+  pub c : slice_index block (2 * quarter + i) < bound
+  pub d : slice_index block (3 * quarter + i) < bound

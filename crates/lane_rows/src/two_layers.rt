@@ -1,11 +1,11 @@
 //! Two layers of the transform at once, on the quarters of a block, so that each word is loaded and stored once.
 
 ghost use Rattle.std.specs.Prelude.{◌≡◌, ◌≢◌, ℕ, ◌+◌, ◌*◌, ◌^◌, ◌<◌, length, slice_index};
-ghost use Rattle.lane_rows.specs.Butterflies.{EachFour, FourAt, HasQuotient, IsButterfly, IsButterflyBack, TwoLayers, TwoLayersBack};
+ghost use Rattle.lane_rows.specs.Butterflies.{EachFour, FourAt, FourBelow, HasQuotient, IsButterfly, IsButterflyBack, IsScaledButterflyBack, TwoLayers, TwoLayersBack};
 ghost use Rattle.lane_rows.specs.Rows.{RowBelow};
 
 use crate::UNROLLED;
-use crate::words::{butterfly, butterfly_back};
+use crate::words::{butterfly, butterfly_back, scaled_butterfly_back};
 
 /// A factor w of products modulo q, with `shoup`, the quotient of `w * 2^64` by q.
 #[derive(Clone, Copy)]
@@ -136,6 +136,75 @@ fn step_back(
     let (c, d) = butterfly_back(q, second.w, second.shoup, block[2 * quarter + i], block[3 * quarter + i]);
     let (new_a, new_c) = butterfly_back(q, outer.w, outer.shoup, a, c);
     let (new_b, new_d) = butterfly_back(q, outer.w, outer.shoup, b, d);
+    block[i] = new_a;
+    block[quarter + i] = new_b;
+    block[2 * quarter + i] = new_c;
+    block[3 * quarter + i] = new_d;
+}
+
+/// The last two layers back, which multiply all words by the factor of `scale` as well: that of `outer` has it in it. The words
+/// are reduced.
+#[inline(always)]
+pub fn scaled_butterflies_back_twice(
+    q: u64,
+    scale: Root,
+    outer: Root,
+    first: Root,
+    second: Root,
+    quarter: usize,
+    block: &mut [u64],
+)
+    requires modulus { (0 < q) × (q < 2 ^ 61) }
+    requires scale_quotient { HasQuotient q scale }
+    requires outer_quotient { HasQuotient q outer }
+    requires first_quotient { HasQuotient q first }
+    requires second_quotient { HasQuotient q second }
+    requires quarters { length block.old ≡ 4 * quarter }
+    requires below { RowBelow (2 * q) block.old }
+    ensures layers { EachFour (TwoLayersBack (IsScaledButterflyBack q scale.w outer.w) (IsButterflyBack q first.w) (IsButterflyBack q second.w)) quarter block.old block.new }
+    ensures below { RowBelow q block.new }
+{
+    let chunks = quarter / UNROLLED;
+    'chunks: for k in 0..chunks {
+        'places: for r in 0..UNROLLED {
+            scaled_step_back(q, scale, outer, first, second, quarter, UNROLLED * k + r, block);
+        }
+    }
+    'rest: for i in UNROLLED * chunks..quarter {
+        scaled_step_back(q, scale, outer, first, second, quarter, i, block);
+    }
+}
+
+/// The last two layers back of the words at one place of the quarters.
+#[inline(always)]
+fn scaled_step_back(
+    q: u64,
+    scale: Root,
+    outer: Root,
+    first: Root,
+    second: Root,
+    quarter: usize,
+    i: usize,
+    block: &mut [u64],
+)
+    requires modulus { (0 < q) × (q < 2 ^ 61) }
+    requires scale_quotient { HasQuotient q scale }
+    requires outer_quotient { HasQuotient q outer }
+    requires first_quotient { HasQuotient q first }
+    requires second_quotient { HasQuotient q second }
+    requires quarters { length block.old ≡ 4 * quarter }
+    requires inside { i < quarter }
+    requires below { RowBelow (2 * q) block.old }
+    ensures layers { FourAt (TwoLayersBack (IsScaledButterflyBack q scale.w outer.w) (IsButterflyBack q first.w) (IsButterflyBack q second.w)) quarter i block.old block.new }
+    ensures reduced { FourBelow q quarter i block.new }
+    ensures below { RowBelow (2 * q) block.new }
+    ensures others { (j : ℕ) → j ≢ i → j ≢ quarter + i → j ≢ 2 * quarter + i → j ≢ 3 * quarter + i
+        → slice_index block.new j ≡ slice_index block.old j }
+{
+    let (a, b) = butterfly_back(q, first.w, first.shoup, block[i], block[quarter + i]);
+    let (c, d) = butterfly_back(q, second.w, second.shoup, block[2 * quarter + i], block[3 * quarter + i]);
+    let (new_a, new_c) = scaled_butterfly_back(q, scale, outer, a, c);
+    let (new_b, new_d) = scaled_butterfly_back(q, scale, outer, b, d);
     block[i] = new_a;
     block[quarter + i] = new_b;
     block[2 * quarter + i] = new_c;

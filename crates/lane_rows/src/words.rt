@@ -1,7 +1,9 @@
 //! The arithmetic on one word.
 
 ghost use Rattle.std.specs.Prelude.{◌≡◌, ◌+◌, ◌-◌, ◌*◌, ◌/◌, ◌%◌, ◌^◌, ◌<◌, ◌≤◌};
-ghost use Rattle.lane_rows.specs.Butterflies.{IsButterfly, IsButterflyBack};
+ghost use Rattle.lane_rows.specs.Butterflies.{HasQuotient, IsButterfly, IsButterflyBack, IsScaledButterflyBack};
+
+use crate::two_layers::Root;
 
 /// The residue of a word that at most one subtraction of the bound reduces.
 #[inline(always)]
@@ -115,4 +117,23 @@ pub fn butterfly_back(q: u64, w: u64, shoup: u64, x: u64, y: u64) -> (u64, u64)
     let twice = 2 * q;
     let sum = reduce_once(twice, x + y);
     (sum, scale_lazy(q, w, shoup, x + twice - y))
+}
+
+/// The residues of s * (x + y) and w * (x - y), where s is the factor `scale` and w that of `root`.
+#[inline(always)]
+pub fn scaled_butterfly_back(q: u64, scale: Root, root: Root, x: u64, y: u64) -> (u64, u64)
+    requires modulus { (0 < q) × (q < 2 ^ 61) }
+    requires scale_quotient { HasQuotient q scale }
+    requires root_quotient { HasQuotient q root }
+    requires x_below { x < 2 * q }
+    requires y_below { y < 2 * q }
+    ensures pair { IsScaledButterflyBack q scale.w root.w x y result.0 result.1 }
+    ensures sum_below { result.0 < q }
+    ensures difference_below { result.1 < q }
+{
+    let difference = x + 2 * q - y;
+    (
+        self::scale(q, scale.w, scale.shoup, x + y),
+        self::scale(q, root.w, root.shoup, difference),
+    )
 }

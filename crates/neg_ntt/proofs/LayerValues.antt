@@ -1,5 +1,5 @@
 -- Layers of the transform on words: what a layer of butterflies makes of the blocks of a polynomial.
-use Rattle.std.proofs.Common.{◌≡◌, ℕ, suc, ◌+◌, ◌-◌, ◌*◌, ◌^◌, ◌<◌, ◌≤◌, refl, sym, ap, ◌∙◌, subst, arith, ℤ, pos, neg_ℤ, ◌+ℤ◌, ◌*ℤ◌, List, get_or, ⊎_elim}
+use Rattle.std.proofs.Common.{◌≡◌, ℕ, suc, ◌+◌, ◌-◌, ◌*◌, ◌%◌, ◌^◌, ◌<◌, ◌≤◌, refl, sym, ap, ◌∙◌, subst, arith, ℤ, pos, neg_ℤ, ◌+ℤ◌, ◌*ℤ◌, List, get_or, ⊎_elim}
 use Rattle.std.proofs.lemmas.Bool.{cases_lt}
 use Rattle.ring_law.specs.Residues.{Congruent}
 use Rattle.ring_law.specs.Transform.{bit_reversal}
@@ -8,7 +8,7 @@ use Rattle.ring_law.proofs.Congruence.{Congruent-add, Congruent-equal, Congruent
 use Rattle.ring_law.proofs.Residues.{Congruent-from_residues}
 use Rattle.ring_law.proofs.BitReversal.{even_or_odd}
 use Rattle.ring_law.proofs.TransformLayers.{block_value, block_value_even, block_value_odd}
-use Rattle.lane_rows.specs.Butterflies.{IsButterfly, IsButterflyBack}
+use Rattle.lane_rows.specs.Butterflies.{IsButterfly, IsButterflyBack, IsScaledButterflyBack}
 use Rattle.neg_ntt.specs.Butterflies.{EachBlock}
 
 -- the row has 2^s blocks of width words, congruent modulo q to m times the blocks of a
@@ -34,18 +34,18 @@ module _ (q m x y w sum difference : ℕ) (positive : 0 < q) (U V W : ℤ) (w_is
       (Congruent-neg q (Congruent-mul q w_is y_is)))
       (Congruent-equal q (identity4 (λ m u v w. m ⊗ u ⊕ minus (w ⊗ (m ⊗ v))) (λ m u v w. m ⊗ (u ⊕ minus w ⊗ v)) refl (pos m) U V W)))
 
--- backwards: a pair of words congruent to m times the sum and the difference, and w the inverse of W
-module _ (q m x y w sum difference : ℕ) (positive : 0 < q) (U V W : ℤ) (w_is : Congruent q (pos w *ℤ W) (pos 1))
-    (step : IsButterflyBack q w x y sum difference) (x_is : Congruent q (pos x) (pos m *ℤ (U +ℤ W *ℤ V)))
+-- backwards: a pair of words congruent to m times the sum and the difference, and w the inverse of W, times f
+module _ (q f m x y w sum difference : ℕ) (positive : 0 < q) (U V W : ℤ) (w_is : Congruent q (pos w *ℤ W) (pos f))
+    (step : IsScaledButterflyBack q f w x y sum difference) (x_is : Congruent q (pos x) (pos m *ℤ (U +ℤ W *ℤ V)))
     (y_is : Congruent q (pos y) (pos m *ℤ (U +ℤ neg_ℤ W *ℤ V))) where
-  pub butterfly_back_sum : Congruent q (pos sum) (pos (2 * m) *ℤ U)
+  pub butterfly_back_sum : Congruent q (pos sum) (pos (f * (2 * m)) *ℤ U)
   butterfly_back_sum =
-      Congruent-trans q (Congruent-from_residues q (pos sum) (pos (x + y)) positive step.adds)
-      (Congruent-trans q (Congruent-add q x_is y_is)
+      Congruent-trans q (Congruent-from_residues q (pos sum) (pos (f * (x + y))) positive step.adds)
+      (Congruent-trans q (Congruent-mul q (Congruent-refl q (pos f)) (Congruent-add q x_is y_is))
       (Congruent-equal q
-      (identity4 (λ m u v w. m ⊗ (u ⊕ w ⊗ v) ⊕ m ⊗ (u ⊕ minus w ⊗ v)) (λ m u v w. (literal (pos 2) ⊗ m) ⊗ u) refl (pos m) U V W)))
+      (identity5 (λ m u v w f. f ⊗ (m ⊗ (u ⊕ w ⊗ v) ⊕ m ⊗ (u ⊕ minus w ⊗ v))) (λ m u v w f. (f ⊗ (literal (pos 2) ⊗ m)) ⊗ u) refl (pos m) U V W (pos f))))
 
-  pub butterfly_back_difference : Congruent q (pos difference) (pos (2 * m) *ℤ V)
+  pub butterfly_back_difference : Congruent q (pos difference) (pos (f * (2 * m)) *ℤ V)
   butterfly_back_difference =
       Congruent-trans q (Congruent-equal q (identity3 (λ d w y. d) (λ d w y. (d ⊕ w ⊗ y) ⊕ minus (w ⊗ y)) refl (pos difference) (pos w) (pos y)))
       (Congruent-trans q
@@ -57,7 +57,7 @@ module _ (q m x y w sum difference : ℕ) (positive : 0 < q) (U V W : ℤ) (w_is
       (identity5 (λ m u v w c. c ⊗ (m ⊗ (u ⊕ w ⊗ v)) ⊕ minus (c ⊗ (m ⊗ (u ⊕ minus w ⊗ v)))) (λ m u v w c. (c ⊗ w) ⊗ ((literal (pos 2) ⊗ m) ⊗ v)) refl (pos m) U V W
       (pos w)))
       (Congruent-trans q (Congruent-mul q w_is (Congruent-refl q (pos (2 * m) *ℤ V)))
-      (Congruent-equal q (identity1 (λ z. literal (pos 1) ⊗ z) (λ z. z) refl (pos (2 * m) *ℤ V))))))
+      (Congruent-equal q (identity3 (λ f m v. f ⊗ ((literal (pos 2) ⊗ m) ⊗ v)) (λ f m v. (f ⊗ (literal (pos 2) ⊗ m)) ⊗ v) refl (pos f) (pos m) V)))))
 
 module _ (q x n s t m : ℕ) (positive : 0 < q) (minus_one : Congruent q (pos (x ^ n)) (neg_ℤ (pos 1))) (size : 2 * t * 2 ^ s ≡ n) (a : ℕ → ℤ)
     (w : ℕ → ℕ) (old new : List ℕ) where
@@ -110,21 +110,21 @@ module _ (q x n s t m : ℕ) (positive : 0 < q) (minus_one : Congruent q (pos (x
           place : (i t r : ℕ) → i * (2 * t) + (t + r) ≡ (2 * i + 1) * t + r
           place i t r = omega arith
 
-  -- a layer back puts them together, and doubles them
-  pub AreBlocks-previous : ((i : ℕ) → i < 2 ^ s → Congruent q (pos (w i) *ℤ pos (x ^ (t * (2 * bit_reversal s i + 1)))) (pos 1))
-      → EachBlock (λ i. IsButterflyBack q (w i)) (2 ^ s) t old new → AreBlocks q x (suc s) t m a old → AreBlocks q x s (2 * t) (2 * m) a new
-  AreBlocks-previous w_is steps before = record {
+  -- a layer back puts them together, and doubles them and multiplies them by f
+  pub AreBlocks-previous_scaled : (f : ℕ) → ((i : ℕ) → i < 2 ^ s → Congruent q (pos (w i) *ℤ pos (x ^ (t * (2 * bit_reversal s i + 1)))) (pos f))
+      → EachBlock (λ i. IsScaledButterflyBack q f (w i)) (2 ^ s) t old new → AreBlocks q x (suc s) t m a old → AreBlocks q x s (2 * t) (f * (2 * m)) a new
+  AreBlocks-previous_scaled f w_is steps before = record {
     at = λ i r below inside. ⊎_elim
-        (λ (l : r < t). butterfly_back_sum q m (get_or old (i * (2 * t) + r) 0) (get_or old (i * (2 * t) + (t + r)) 0) (w i) (get_or new (i * (2 * t) + r) 0)
+        (λ (l : r < t). butterfly_back_sum q f m (get_or old (i * (2 * t) + r) 0) (get_or old (i * (2 * t) + (t + r)) 0) (w i) (get_or new (i * (2 * t) + r) 0)
         (get_or new (i * (2 * t) + (t + r)) 0) positive (block_value x (2 ^ s) (2 * t) (2 * bit_reversal s i + 1) r a) (block_value x (2 ^ s) (2 * t) (2 * bit_reversal s i + 1) (r + t) a) (pos (x ^ (t * (2 * bit_reversal s i + 1)))) (w_is i below) (steps i r below l) (even i r below l) (odd i r below l))
         (λ (l : t ≤ r). let in_half : r - t < t = omega arith in
         let sum : t + (r - t) ≡ r = omega arith in
         let turned : (r - t) + t ≡ r = omega arith in
-        let here = butterfly_back_difference q m (get_or old (i * (2 * t) + (r - t)) 0) (get_or old (i * (2 * t) + (t + (r - t))) 0) (w i)
+        let here = butterfly_back_difference q f m (get_or old (i * (2 * t) + (r - t)) 0) (get_or old (i * (2 * t) + (t + (r - t))) 0) (w i)
         (get_or new (i * (2 * t) + (r - t)) 0) (get_or new (i * (2 * t) + (t + (r - t))) 0) positive (block_value x (2 ^ s) (2 * t) (2 * bit_reversal s i + 1) (r - t) a) (block_value x (2 ^ s) (2 * t) (2 * bit_reversal s i + 1) (r - t + t) a) (pos (x ^ (t * (2 * bit_reversal s i + 1)))) (w_is i below)
         (steps i (r - t) below in_half) (even i (r - t) below in_half) (odd i (r - t) below in_half) in
-        subst (λ v. Congruent q (pos (get_or new (i * (2 * t) + r) 0)) (pos (2 * m) *ℤ block_value x (2 ^ s) (2 * t) (2 * bit_reversal s i + 1) v a)) turned
-        (subst (λ p. Congruent q (pos (get_or new (i * (2 * t) + p) 0)) (pos (2 * m) *ℤ block_value x (2 ^ s) (2 * t) (2 * bit_reversal s i + 1) (r - t + t) a)) sum here))
+        subst (λ v. Congruent q (pos (get_or new (i * (2 * t) + r) 0)) (pos (f * (2 * m)) *ℤ block_value x (2 ^ s) (2 * t) (2 * bit_reversal s i + 1) v a)) turned
+        (subst (λ p. Congruent q (pos (get_or new (i * (2 * t) + p) 0)) (pos (f * (2 * m)) *ℤ block_value x (2 ^ s) (2 * t) (2 * bit_reversal s i + 1) (r - t + t) a)) sum here))
         (cases_lt r t);
   }
     where
@@ -157,3 +157,18 @@ module _ (q x n s t m : ℕ) (positive : 0 < q) (minus_one : Congruent q (pos (x
         where
           place : (i t r : ℕ) → (2 * i + 1) * t + r ≡ i * (2 * t) + (t + r)
           place i t r = omega arith
+
+  -- without a factor
+  pub AreBlocks-previous : ((i : ℕ) → i < 2 ^ s → Congruent q (pos (w i) *ℤ pos (x ^ (t * (2 * bit_reversal s i + 1)))) (pos 1))
+      → EachBlock (λ i. IsButterflyBack q (w i)) (2 ^ s) t old new → AreBlocks q x (suc s) t m a old → AreBlocks q x s (2 * t) (2 * m) a new
+  AreBlocks-previous w_is steps before =
+      subst (λ m. AreBlocks q x s (2 * t) m a new) (once (2 * m)) (AreBlocks-previous_scaled 1 w_is
+      (λ i r below inside.
+      let step = steps i r below inside in
+      record {
+        adds = step.adds ∙ ap (λ sum. sum % q) (sym (once (get_or old (i * (2 * t) + r) 0 + get_or old (i * (2 * t) + (t + r)) 0)));
+        subtracts = step.subtracts;
+      }) before)
+    where
+      once : (y : ℕ) → 1 * y ≡ y
+      once y = omega arith
