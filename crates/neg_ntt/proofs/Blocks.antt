@@ -36,6 +36,16 @@ EachBlock-parts P count half old new parts i r below inside =
     rw (part_word (2 * half) (i * (2 * half)) old r low, part_word (2 * half) (i * (2 * half)) old (half + r) high,
       part_word (2 * half) (i * (2 * half)) new r low, part_word (2 * half) (i * (2 * half)) new (half + r) high) at pair
 
+-- a row that is one block
+pub EachBlock-one : (P : ℕ → ℕ → ℕ → ℕ → ℕ → Type 0) (half : ℕ) (old new : List ℕ) → EachPair (P 0) half old new → EachBlock P 1 half old new
+EachBlock-one P half old new pairs i r below inside =
+    let first : 0 ≡ i = omega arith in
+    subst (λ i. P i (get_or old (i * (2 * half) + r) 0) (get_or old (i * (2 * half) + (half + r)) 0) (get_or new (i * (2 * half) + r) 0)
+    (get_or new (i * (2 * half) + (half + r)) 0)) first (rw (here r, here (half + r)) (pairs r inside))
+  where
+    here : (s : ℕ) → 0 * (2 * half) + s ≡ s
+    here s = omega arith
+
 -- in a row that first was as told, P holds of the parts before part i, and the row from it on is as it was
 pub record PartsDone (P : ℕ → List ℕ → List ℕ → Type 0) (width : ℕ) (first row : List ℕ) (i : ℕ) : Type 0 where
   pub done : EachPart P i width first row

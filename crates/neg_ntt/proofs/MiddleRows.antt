@@ -1,5 +1,5 @@
 -- Two layers at once are two layers one after the other, by way of a middle row.
-use Rattle.std.proofs.Common.{◌≡◌, ℕ, zero, suc, ◌+◌, ◌-◌, ◌*◌, ◌<◌, ◌≤◌, List, [], ◌∷◌, ◌++◌, take, drop, length, get_or, arith, refl, sym, ap, ◌∙◌, subst, ⊎_elim, length-append, map, drop-drop, take_at}
+use Rattle.std.proofs.Common.{◌≡◌, ℕ, zero, suc, ◌+◌, ◌-◌, ◌*◌, ◌<◌, ◌≤◌, List, [], ◌∷◌, ◌++◌, take, drop, length, get_or, arith, refl, sym, ap, ◌∙◌, subst, ⊎_elim, length-append, map, drop-drop, take_at, take_all}
 use Rattle.std.proofs.Math.ListN.{get_or-map}
 use Rattle.std.proofs.lemmas.List.{drop_at, length-map, get_or-append-add, get_or_append_left}
 use Rattle.std.proofs.lemmas.Bool.{cases_lt}
@@ -138,6 +138,16 @@ first_part width xs = ap (λ n. take width (drop n xs)) (none width)
   where
     none : (w : ℕ) → 0 * w ≡ 0
     none w = omega arith
+
+-- a row that is one part
+pub EachPart-one : (P : ℕ → List ℕ → List ℕ → Type 0) (width : ℕ) (old new : List ℕ) → length old ≡ width → length new ≡ width → P 0 old new
+    → EachPart P 1 width old new
+EachPart-one P width old new old_len new_len here i below =
+    let first : 0 ≡ i = omega arith in
+    subst (λ i. P i (take width (drop (i * width) old)) (take width (drop (i * width) new))) first (rw (whole old old_len, whole new new_len) here)
+  where
+    whole : (xs : List ℕ) → length xs ≡ width → take width (drop (0 * width) xs) ≡ xs
+    whole xs len = first_part width xs ∙ take_all width xs (omega arith)
 
 -- blocks that each became the new ones by way of a middle block make a middle row
 middle_row : (P Q : ℕ → List ℕ → List ℕ → Type 0) (width count : ℕ) (old new : List ℕ)

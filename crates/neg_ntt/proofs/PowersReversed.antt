@@ -79,6 +79,13 @@ bit_reversal_zero (suc k) = ap (λ b. 0 * 2 ^ k + b) (bit_reversal_zero k) ∙ n
     none : (p : ℕ) → 0 * p + 0 ≡ 0
     none p = omega arith
 
+-- the exponent of the only root where there is one block
+pub first_exponent : (half : ℕ) → half * (2 * bit_reversal 0 0 + 1) ≡ half
+first_exponent half = ap (λ b. half * (2 * b + 1)) (bit_reversal_zero 0) ∙ once half
+  where
+    once : (h : ℕ) → h * (2 * 0 + 1) ≡ h
+    once h = omega arith
+
 -- the first power
 pub ArePowersReversed-one : (q k x w : ℕ) (one : Factor) → w ≡ 1 % q → one.w ≡ w → one.shoup ≡ shoup_of q w
     → ArePowersReversed q k x 1 (one ∷ [])

@@ -14,11 +14,11 @@ use Rattle.ring_law.proofs.BitReversal.{even_or_odd}
 use Rattle.ring_law.proofs.Evaluation.{pow-pow, power_whole_turns}
 use Rattle.ring_law.proofs.TransformEntries.{polynomial_of_entries, transform_entry-polynomial_of_entries, transform_entry_congruent}
 use Rattle.ring_law.proofs.TransformLayers.{block_value, block_value_first, block_value_last}
-use Rattle.lane_rows.specs.Butterflies.{IsButterfly, IsButterflyBack}
+use Rattle.lane_rows.specs.Butterflies.{IsButterfly, IsButterflyBack, IsScaledButterflyBack}
 use Rattle.neg_ntt.specs.Butterflies.{EachBlock}
-use Rattle.neg_ntt.specs.Layers.{IsJoined, IsSplit}
-use Rattle.neg_ntt.specs.Parameters.{AreParameters, IsDegree, Parameters}
-use Rattle.neg_ntt.proofs.LayerValues.{AreBlocks, AreBlocks-next, AreBlocks-previous}
+use Rattle.neg_ntt.specs.Layers.{IsJoined, IsJoinedLast, IsSplit}
+use Rattle.neg_ntt.specs.Parameters.{AreParameters, IsDegree, Parameters, inverse_root, layer_half, layer_root}
+use Rattle.neg_ntt.proofs.LayerValues.{AreBlocks, AreBlocks-next, AreBlocks-previous, AreBlocks-previous_scaled}
 
 -- ---- sizes
 -- a power of two up to 2^15 has at most this exponent
@@ -81,6 +81,12 @@ IsPower-from_IsDegree n degree =
 
     greatest : (n : ℕ) → 32768 % n ≡ 0 → n ≤ 32768
     greatest n d = ⊎_elim (λ (l : 32768 < n). absurd (let h : 32768 % n ≡ 32768 = mod-eq_of_lt l in omega arith)) (λ (l : n ≤ 32768). l) (cases_lt 32768 n)
+
+-- a degree has at least two digits behind its first one
+pub log_from_two : (n k : ℕ) → n ≡ 2 ^ k → 4 ≤ n → 2 ≤ k
+log_from_two n zero size from = absurd (omega arith)
+log_from_two n (suc zero) size from = absurd (omega arith)
+log_from_two n (suc (suc k)) size from = omega arith
 
 -- the next power of two that is at most n
 pub log_next : (e n k : ℕ) → n ≡ 2 ^ k → n ≤ 32768 → 2 ^ e < n → (e + 1 ≤ 15) × (2 ^ (e + 1) ≤ n)
@@ -263,31 +269,6 @@ AreBlocks-last q x k a row positive entries =
     here : (i : ℕ) → i * 1 + 0 ≡ i
     here i = omega arith
 
--- before the first layer, scaled by the inverse of n, they are the residues of the coefficients
-pub residue-AreBlocks : (q x k n w : ℕ) (a : ℕ → ℤ) (row : List ℕ) (r : ℕ) → 0 < q → n ≡ 2 ^ k → w * n % q ≡ 1
-    → AreBlocks q x 0 (2 ^ (k - 0)) (2 ^ (k - 0)) a row → r < n → w * get_or row r 0 % q ≡ residue q (a r)
-residue-AreBlocks q x k n w a row r positive size is_inverse blocks below =
-    residue_equal q (pos (w * get_or row r 0)) (a r) positive
-    (Congruent-trans q (Congruent-mul q (Congruent-refl q (pos w)) coefficient)
-    (Congruent-trans q (Congruent-equal q (identity3 (λ w n a. w ⊗ (n ⊗ a)) (λ w n a. (w ⊗ n) ⊗ a) refl (pos w) (pos n) (a r)))
-    (Congruent-trans q
-    (Congruent-mul q (Congruent-trans q (Congruent-sym q (Congruent-mod q (w * n) positive)) (Congruent-equal q (ap pos is_inverse))) (Congruent-refl q (a r)))
-    (Congruent-equal q (sym (times_one (a r)))))))
-  where
-    whole : AreBlocks q x 0 n n a row
-    whole = subst (λ n. AreBlocks q x 0 n n a row) (ap (λ e. 2 ^ e) (all k) ∙ sym size) blocks
-      where
-        all : (k : ℕ) → k - 0 ≡ k
-        all k = omega arith
-
-    coefficient : Congruent q (pos (get_or row r 0)) (pos n *ℤ a r)
-    coefficient =
-        Congruent-trans q (Congruent-equal q (ap (λ p. pos (get_or row p 0)) (here n r)))
-        (Congruent-trans q (whole.at 0 r (omega arith) below) (Congruent-equal q (ap (λ z. pos n *ℤ z) (block_value_first x n (2 * bit_reversal 0 0 + 1) r a))))
-      where
-        here : (n r : ℕ) → r ≡ 0 * n + r
-        here n r = omega arith
-
 -- the root of parameters that fit
 pub AreParameters-minus_one : (n : ℕ) (t : Parameters) → AreParameters n t → Congruent t.modulus (pos (t.root ^ (2 ^ t.log_degree))) (neg_ℤ (pos 1))
 AreParameters-minus_one n t fit =
@@ -308,6 +289,92 @@ module _ (n : ℕ) (t : Parameters) (fit : AreParameters n t) (a : ℕ → ℤ) 
       subst (λ m. AreBlocks t.modulus t.root s (2 ^ (t.log_degree - s)) m a new) (sym (layer_width t.log_degree s below))
       (AreBlocks-join t.modulus t.root t.log_degree n s (2 ^ (t.log_degree - suc s)) (omega (arith, fit.modulus.from_three)) (AreParameters-minus_one n t fit) below a
       old new fit.power pairs before)
+
+-- the last layer back, told by what is kept of its roots
+pub IsJoinedLast-from : (n : ℕ) (t : Parameters) (q w root half : ℕ) (old new : List ℕ) → q ≡ t.modulus → w * n % t.modulus ≡ 1
+    → root ≡ w * layer_root (inverse_root n t) t 0 0 % t.modulus → half ≡ layer_half t 0
+    → EachBlock (λ i. IsScaledButterflyBack q w root) 1 half old new → IsJoinedLast n t old new
+IsJoinedLast-from n t q w root half old new modulus is_inverse is_root is_half pairs = record {
+  scale = w;
+  is_inverse = is_inverse;
+  pairs =
+      subst (λ h. EachBlock (λ i. IsScaledButterflyBack t.modulus w (w * layer_root (inverse_root n t) t 0 i % t.modulus)) 1 h old new) is_half
+      (λ i r below inside.
+      let first : 0 ≡ i = omega arith in
+      subst
+      (λ j. IsScaledButterflyBack t.modulus w (w * layer_root (inverse_root n t) t 0 j % t.modulus) (get_or old (i * (2 * half) + r) 0)
+      (get_or old (i * (2 * half) + (half + r)) 0) (get_or new (i * (2 * half) + r) 0) (get_or new (i * (2 * half) + (half + r)) 0)) first
+      (subst
+      (λ root. IsScaledButterflyBack t.modulus w root (get_or old (i * (2 * half) + r) 0) (get_or old (i * (2 * half) + (half + r)) 0)
+      (get_or new (i * (2 * half) + r) 0) (get_or new (i * (2 * half) + (half + r)) 0)) is_root
+      (subst
+      (λ q. IsScaledButterflyBack q w root (get_or old (i * (2 * half) + r) 0) (get_or old (i * (2 * half) + (half + r)) 0) (get_or new (i * (2 * half) + r) 0)
+      (get_or new (i * (2 * half) + (half + r)) 0)) modulus (pairs i r below inside))));
+}
+
+-- the words of the row of the last layer back, scaled by the inverse of n, are the residues of the coefficients
+pub residue-joined : (n : ℕ) (t : Parameters) → AreParameters n t → (a : ℕ → ℤ) (old new : List ℕ) (last : IsJoinedLast n t old new)
+    → AreBlocks t.modulus t.root 1 (2 ^ (t.log_degree - 1)) (2 ^ (t.log_degree - 1)) a old
+    → (r : ℕ) → r < n → get_or new r 0 < t.modulus → get_or new r 0 ≡ residue t.modulus (a r)
+residue-joined n t fit a old new last before r below reduced =
+    sym (mod-eq_of_lt reduced) ∙ residue_equal q (pos (get_or new r 0)) (a r) positive
+    (Congruent-trans q (Congruent-equal q (ap (λ p. pos (get_or new p 0)) (here n r)))
+    (Congruent-trans q (whole.at 0 r (omega arith) below)
+    (Congruent-trans q (Congruent-equal q (ap (λ z. pos (last.scale * n) *ℤ z) (block_value_first x n (2 * bit_reversal 0 0 + 1) r a)))
+    (Congruent-trans q
+    (Congruent-mul q
+    (Congruent-trans q (Congruent-sym q (Congruent-mod q (last.scale * n) positive)) (Congruent-equal q (ap pos last.is_inverse)))
+    (Congruent-refl q (a r)))
+    (Congruent-equal q (sym (times_one (a r))))))))
+  where
+    q : ℕ
+    q = t.modulus
+
+    x : ℕ
+    x = t.root
+
+    k : ℕ
+    k = t.log_degree
+
+    positive : 0 < t.modulus
+    positive = omega (arith, fit.modulus.from_three)
+
+    layer : 0 < t.log_degree
+    layer = let two = log_from_two n t.log_degree fit.power fit.from_four in omega arith
+
+    here : (n r : ℕ) → r ≡ 0 * n + r
+    here n r = omega arith
+
+    width : 2 * 2 ^ (t.log_degree - suc 0) ≡ n
+    width = sym (layer_width t.log_degree 0 layer) ∙ ap (λ e. 2 ^ e) (all t.log_degree) ∙ sym fit.power
+      where
+        all : (k : ℕ) → k - 0 ≡ k
+        all k = omega arith
+
+    size : 2 * 2 ^ (t.log_degree - suc 0) * 2 ^ 0 ≡ 2 ^ t.log_degree
+    size = once (2 * 2 ^ (t.log_degree - suc 0)) ∙ width ∙ fit.power
+      where
+        once : (w : ℕ) → w * 2 ^ 0 ≡ w
+        once w = omega arith
+
+    -- the scaled roots times the powers are the scale
+    scaled : (i : ℕ) → i < 2 ^ 0 → Congruent q (pos (last.scale * layer_root (inverse_root n t) t 0 i % q) *ℤ pos (x ^ (layer_half t 0 * (2 * bit_reversal 0 i + 1))))
+        (pos last.scale)
+    scaled i l =
+        Congruent-trans q (Congruent-mul q (Congruent-mod q (last.scale * layer_root (inverse_root n t) t 0 i) positive) (Congruent-refl q (pos (x ^ (layer_half t 0 * (2 * bit_reversal 0 i + 1))))))
+        (Congruent-trans q
+        (Congruent-equal q (identity3 (λ f w y. (f ⊗ w) ⊗ y) (λ f w y. f ⊗ (w ⊗ y)) refl (pos last.scale) (pos (layer_root (inverse_root n t) t 0 i))
+        (pos (x ^ (layer_half t 0 * (2 * bit_reversal 0 i + 1))))))
+        (Congruent-trans q
+        (Congruent-mul q (Congruent-refl q (pos last.scale))
+        (inverse_power q x k n (layer_half t 0 * (2 * bit_reversal 0 i + 1)) positive fit.power (AreParameters-minus_one n t fit)))
+        (Congruent-equal q (identity1 (λ f. f ⊗ literal (pos 1)) (λ f. f) refl (pos last.scale)))))
+
+    whole : AreBlocks q x 0 n (last.scale * n) a new
+    whole =
+        subst (λ w. AreBlocks q x 0 w (last.scale * w) a new) width
+        (AreBlocks-previous_scaled q x (2 ^ k) 0 (2 ^ (k - suc 0)) (2 ^ (k - suc 0)) positive (AreParameters-minus_one n t fit) size a
+        (λ i. last.scale * layer_root (inverse_root n t) t 0 i % q) old new last.scale scaled last.pairs before)
 
 -- a row of reduced words that holds the residues of each polynomial with the given transform has that transform itself
 pub IsTransform-from_unique : (q x k w : ℕ) (entries new : List ℕ) → 0 < q → Congruent q (pos (x ^ (2 ^ k))) (neg_ℤ (pos 1)) → w * 2 ^ k % q ≡ 1

@@ -2,13 +2,16 @@
 //! pairs.
 
 ghost use Rattle.std.specs.Prelude.{◌≡◌, ◌+◌, ◌*◌, length};
-ghost use Rattle.lane_rows.specs.Butterflies.{EachFour, IsButterfly, IsButterflyBack, TwoLayers, TwoLayersBack};
+ghost use Rattle.lane_rows.specs.Butterflies.{EachFour, IsButterfly, IsButterflyBack, IsScaledButterflyBack, TwoLayers, TwoLayersBack};
 ghost use Rattle.lane_rows.specs.Rows.{RowBelow};
 ghost use Rattle.word_mod.specs.Moduli.{IsModulus, shoup_of};
 ghost use Rattle.neg_ntt.specs.Butterflies.{ByMiddleRow, EachBlock, EachPair, EachPart};
 ghost use Rattle.neg_ntt.specs.Roots.{HaveQuotients, factor_at};
 
-use lane_rows::{Root, butterflies, butterflies_back, butterflies_back_twice, butterflies_twice};
+use lane_rows::{
+    Root, butterflies, butterflies_back_twice, butterflies_twice, scaled_butterflies_back,
+    scaled_butterflies_back_twice,
+};
 use word_mod::Factor;
 
 fn forward_block(q: u64, root: &Factor, half: usize, block: &mut [u64])
@@ -40,33 +43,43 @@ pub fn forward_layer(q: u64, roots: &[Factor], half: usize, row: &mut [u64])
     }
 }
 
-fn inverse_block(q: u64, root: &Factor, half: usize, block: &mut [u64])
+/// The last layer back, which multiplies all words by the factor `scale` as well: `root` has it in it.
+pub fn inverse_last_layer(q: u64, scale: &Factor, root: &Factor, half: usize, row: &mut [u64])
     requires modulus { IsModulus q }
-    requires shoup { root.now.shoup ≡ shoup_of q root.now.w }
-    requires halves { length block.old ≡ 2 * half }
-    requires below { RowBelow (2 * q) block.old }
-    ensures pairs { EachPair (IsButterflyBack q root.now.w) half block.old block.new }
-    ensures below { RowBelow (2 * q) block.new }
+    requires scale_shoup { scale.now.shoup ≡ shoup_of q scale.now.w }
+    requires root_shoup { root.now.shoup ≡ shoup_of q root.now.w }
+    requires halves { length row.old ≡ 2 * half }
+    requires below { RowBelow (2 * q) row.old }
+    ensures pairs { EachBlock (λ i. IsScaledButterflyBack q scale.now.w root.now.w) 1 half row.old row.new }
+    ensures reduced { RowBelow q row.new }
 {
-    let (low, high) = block.split_at_mut(half);
-    butterflies_back(q, root.w, root.shoup, low, high);
+    let (low, high) = row.split_at_mut(half);
+    scaled_butterflies_back(q, root_of(scale), root_of(root), low, high);
 }
 
-/// Joins each two blocks of half words, in words below 2q, to one of twice the length.
-pub fn inverse_layer(q: u64, roots: &[Factor], half: usize, row: &mut [u64])
+/// The last two layers back, of the roots `inner` and of `outer`, where the last one multiplies all words by the factor `scale` as
+/// well: `outer` has it in it.
+pub fn inverse_last_two_layers(
+    q: u64,
+    scale: &Factor,
+    outer: &Factor,
+    inner: &[Factor],
+    quarter: usize,
+    row: &mut [u64],
+)
     requires modulus { IsModulus q }
-    requires quotients { HaveQuotients q roots.now }
-    requires blocks { length row.old ≡ length roots.now * (2 * half) }
+    requires scale_shoup { scale.now.shoup ≡ shoup_of q scale.now.w }
+    requires outer_shoup { outer.now.shoup ≡ shoup_of q outer.now.w }
+    requires inner_quotients { HaveQuotients q inner.now }
+    requires two { length inner.now ≡ 2 }
+    requires quarters { length row.old ≡ 4 * quarter }
     requires below { RowBelow (2 * q) row.old }
-    ensures pairs { EachBlock (λ i. IsButterflyBack q (factor_at roots.now i).w) (length roots.now) half row.old row.new }
-    ensures below { RowBelow (2 * q) row.new }
+    ensures layers { ByMiddleRow (EachBlock (λ i. IsButterflyBack q (factor_at inner.now i).w) 2 quarter)
+        (EachBlock (λ i. IsScaledButterflyBack q scale.now.w outer.now.w) 1 (2 * quarter)) row.old row.new }
+    ensures reduced { RowBelow q row.new }
 {
-    let mut start = 0;
-    for root in roots {
-        let end = start + 2 * half;
-        inverse_block(q, root, half, &mut row[start..end]);
-        start = end;
-    }
+    let (first, second) = (root_of(&inner[0]), root_of(&inner[1]));
+    scaled_butterflies_back_twice(q, root_of(scale), root_of(outer), first, second, quarter, row);
 }
 
 /// Two layers at once: takes each block of `4 * quarter` words, in words below 4q, apart into two by the roots `outer`, and

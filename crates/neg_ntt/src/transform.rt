@@ -4,12 +4,14 @@ ghost use Rattle.std.specs.Prelude.{◌≡◌, ℕ, ℤ, ◌+◌, ◌-◌, ◌*�
 ghost use Rattle.ring_law.specs.Rows.{IsReduced, RowRepresents, row_polynomial};
 ghost use Rattle.lane_rows.specs.Rows.{RowBelow};
 ghost use Rattle.neg_ntt.specs.Butterflies.{ByMiddleRow};
-ghost use Rattle.neg_ntt.specs.Layers.{AreLayerRoots, IsJoined, IsSplit};
+ghost use Rattle.neg_ntt.specs.Layers.{AreLayerRoots, IsJoined, IsJoinedLast, IsSplit};
 ghost use Rattle.neg_ntt.specs.Parameters.{AreParameters, IsDegree, IsTransformBy, inverse_root, layer_half};
 
-use crate::layers::{forward_layer, forward_two_layers, inverse_layer, inverse_two_layers};
+use crate::layers::{
+    forward_layer, forward_two_layers, inverse_last_layer, inverse_last_two_layers, inverse_two_layers,
+};
 use crate::roots::powers_reversed;
-use lane_rows::{fold_row, scale_row_in_place};
+use lane_rows::fold_row;
 use std::alloc::{AllocError, Global};
 use std::marker::Model;
 use thiserror::Error;
@@ -26,7 +28,7 @@ pub enum TransformFault {
 }
 
 /// The transform of degree N modulo q: its tables of powers of the root and of the root's inverse, each in the order in
-/// which the layers take them, and the inverse of N.
+/// which the layers take them, the inverse of N, and the product of that with the root of the last layer back.
 #[derive(Drop)]
 pub struct Transform<const N: usize> {
     modulus: Modulus,
@@ -35,6 +37,7 @@ pub struct Transform<const N: usize> {
     roots: Vec<Factor>,
     inverse_roots: Vec<Factor>,
     inverse_degree: Factor,
+    scaled_root: Factor,
 }
 
 impl<const N: usize> Model for Transform<N> {
@@ -47,7 +50,7 @@ impl<const N: usize> Model for Transform<N> {
     ghost view = { λ t. record { modulus = t.modulus; root = t.root; log_degree = t.log_degree } };
 
     ghost invariant = { λ t. AreTables N (record { modulus = t.modulus; root = t.root; log_degree = t.log_degree })
-        t.roots.items t.inverse_roots.items t.inverse_degree };
+        t.roots.items t.inverse_roots.items t.inverse_degree t.scaled_root };
 }
 
 impl<const N: usize> Transform<N> {
@@ -82,13 +85,16 @@ impl<const N: usize> Transform<N> {
         let log_degree = log_of(N);
         let inverse_root = m.pow(psi, 2 * N as u64 - 1);
         let half = m.value() / 2 + 1;
+        let inverse_degree = m.pow(half, log_degree as u64);
+        let last_root = m.pow(inverse_root, 1 << (log_degree - 1));
         Ok(Transform {
             modulus: *m,
             root: psi,
             log_degree,
             roots: powers_reversed(alloc, m, log_degree, psi)?,
             inverse_roots: powers_reversed(alloc, m, log_degree, inverse_root)?,
-            inverse_degree: m.factor(m.pow(half, log_degree as u64)),
+            inverse_degree: m.factor(inverse_degree),
+            scaled_root: m.factor(m.mul(inverse_degree, last_root)),
         })
     }
 
@@ -129,17 +135,15 @@ impl<const N: usize> Transform<N> {
         ensures reduced { IsReduced N self.now.modulus row.new }
     {
         let mut s = self.log_degree;
-        while s > 0 {
-            if s == 1 {
-                s = 0;
-                self.join_blocks(s, row);
-            } else {
-                s -= 2;
-                self.join_twice(s, row);
-            }
+        while s > 2 {
+            s -= 2;
+            self.join_twice(s, row);
         }
-        let Factor { w, shoup } = self.inverse_degree;
-        scale_row_in_place(self.modulus.value(), w, shoup, row);
+        if s == 2 {
+            self.join_last_twice(row);
+        } else {
+            self.join_last(row);
+        }
     }
 
     /// The layer that makes two blocks of each of `2^s`.
@@ -168,18 +172,6 @@ impl<const N: usize> Transform<N> {
         forward_two_layers(q, outer, inner, self.layer_half(next), row);
     }
 
-    /// The layer that makes `2^s` blocks, each of two.
-    fn join_blocks(&self, s: u32, row: &mut [u64])
-        requires layer { s < self.now.log_degree }
-        requires len { length row.old ≡ N }
-        requires below { RowBelow (2 * self.now.modulus) row.old }
-        ensures pairs { IsJoined N self.now s row.old row.new }
-        ensures below { RowBelow (2 * self.now.modulus) row.new }
-    {
-        let q = self.modulus().value();
-        inverse_layer(q, self.inverse_layer_roots(s), self.layer_half(s), row);
-    }
-
     /// The two layers that make `2^s` blocks, each of four.
     fn join_twice(&self, s: u32, row: &mut [u64])
         requires layers { s + 1 < self.now.log_degree }
@@ -192,6 +184,29 @@ impl<const N: usize> Transform<N> {
         let next = s + 1;
         let (outer, inner) = (self.inverse_layer_roots(s), self.inverse_layer_roots(next));
         inverse_two_layers(q, outer, inner, self.layer_half(next), row);
+    }
+
+    /// The last layer back, with the scaling by the inverse of N. The words are reduced.
+    fn join_last(&self, row: &mut [u64])
+        requires len { length row.old ≡ N }
+        requires below { RowBelow (2 * self.now.modulus) row.old }
+        ensures joined { IsJoinedLast N self.now row.old row.new }
+        ensures reduced { RowBelow self.now.modulus row.new }
+    {
+        let q = self.modulus.value();
+        inverse_last_layer(q, &self.inverse_degree, &self.scaled_root, self.layer_half(0), row);
+    }
+
+    /// The last two layers back, with the scaling by the inverse of N. The words are reduced.
+    fn join_last_twice(&self, row: &mut [u64])
+        requires len { length row.old ≡ N }
+        requires below { RowBelow (2 * self.now.modulus) row.old }
+        ensures layers { ByMiddleRow (IsJoined N self.now 1) (IsJoinedLast N self.now) row.old row.new }
+        ensures reduced { RowBelow self.now.modulus row.new }
+    {
+        let q = self.modulus.value();
+        let inner = self.inverse_layer_roots(1);
+        inverse_last_two_layers(q, &self.inverse_degree, &self.scaled_root, inner, self.layer_half(1), row);
     }
 
     /// The roots of the layer with `2^s` blocks.
@@ -234,6 +249,7 @@ fn layer_factors(powers: &[Factor], s: u32) -> &[Factor]
 fn log_of(n: usize) -> u32
     requires { IsDegree n }
     ensures power { n ≡ 2 ^ result }
+    ensures from_two { 2 ≤ result }
     ensures to_limit { result ≤ 15 }
 {
     let mut log = 2;
