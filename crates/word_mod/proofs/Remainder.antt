@@ -1,6 +1,6 @@
 -- Remainders, by the multiples of the modulus that two numbers differ by.
 use Rattle.std.proofs.Common.{◌≡◌, ℕ, ◌+◌, ◌-◌, ◌*◌, ◌/◌, ◌%◌, ◌<◌, ◌≤◌, sym, ap, ◌∙◌, arith}
-use Rattle.std.proofs.lemmas.Nat.{mod-mul-add}
+use Rattle.std.proofs.lemmas.Nat.{div-mul-add, mod-mul-add}
 use Rattle.std.proofs.Math.Nat.{add-mul-mod_self_right, mod-eq_of_lt, mod-eq-sub-mod}
 
 -- numbers that differ by multiples of q have one remainder
@@ -26,6 +26,17 @@ pub remainder_past : (a k q : ℕ) → k * q ≤ a → q ≤ a - k * q → a < (
 remainder_past a k q le ge lt =
     let split : a ≡ (k + 1) * q + (a - k * q - q) = omega arith in
     sym (ap (λ (x : ℕ). x % q) split ∙ mod-mul-add (k + 1) q (a - k * q - q) (omega arith))
+
+-- and the quotient itself
+pub quotient_at : (a k q : ℕ) → k * q ≤ a → a - k * q < q → k ≡ a / q
+quotient_at a k q le lt =
+    let split : a ≡ k * q + (a - k * q) = omega arith in
+    sym (ap (λ (x : ℕ). x / q) split ∙ div-mul-add k q (a - k * q) lt)
+
+pub quotient_past : (a k q : ℕ) → k * q ≤ a → q ≤ a - k * q → a < (k + 2) * q → k + 1 ≡ a / q
+quotient_past a k q le ge lt =
+    let split : a ≡ (k + 1) * q + (a - k * q - q) = omega arith in
+    sym (ap (λ (x : ℕ). x / q) split ∙ div-mul-add (k + 1) q (a - k * q - q) (omega arith))
 
 -- the remainder of a number from q to below 2 * q that stands for z
 pub remainder_less : (q y z : ℕ) → y % q ≡ z % q → y < 2 * q → q ≤ y → y - q ≡ z % q

@@ -109,15 +109,25 @@ impl Modulus {
         self.reduce_wide(a as u128)
     }
 
-    /// The residue of a number of two words by Barrett's reduction: the quotient that the ratio
-    /// gives is the true one or one less.
+    /// The residue of a number of two words.
     pub fn reduce_wide(&self, a: u128) -> u64
         ensures value { result ≡ a % self.now }
         ensures below { result < self.now }
     {
+        self.divide(a).1
+    }
+
+    /// Quotient and rest of a number of two words by Barrett's method: the quotient that the ratio
+    /// gives is the true one or one less.
+    #[inline(always)]
+    fn divide(&self, a: u128) -> (u128, u64)
+        ensures quotient { result.0 ≡ a / self.now }
+        ensures rest { result.1 ≡ a % self.now }
+        ensures below { result.1 < self.now }
+    {
         let quotient = high_product(a, self.ratio);
         let rest = (a - quotient * self.q as u128) as u64;
-        if rest >= self.q { rest - self.q } else { rest }
+        if rest >= self.q { (quotient + 1, rest - self.q) } else { (quotient, rest) }
     }
 
     /// The power of any word modulo q by squarings. The power with exponent 0 is 1.
@@ -171,10 +181,10 @@ impl Modulus {
         ensures w { result.w ≡ w }
         ensures shoup { result.shoup ≡ shoup_of self.now w }
     {
-        let q = self.q;
+        let (shoup, _) = self.divide((w as u128) << 64);
         Factor {
             w,
-            shoup: (((w as u128) << 64) / q as u128) as u64,
+            shoup: shoup as u64,
         }
     }
 
@@ -204,6 +214,7 @@ impl Modulus {
 }
 
 /// The upper two words of the product of two numbers of two words.
+#[inline(always)]
 fn high_product(a: u128, b: u128) -> u128
     ensures { result ≡ a * b / 2 ^ 128 }
 {
