@@ -3,3 +3,4 @@ pub mod MiddleRows
 pub mod PowersReversed
 pub mod LayerValues
 pub mod Steps
+pub mod InverseRoots

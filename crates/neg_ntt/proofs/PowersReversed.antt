@@ -130,7 +130,7 @@ power_in_word d small = ap (λ y. y % 2 ^ 64) (one (2 ^ d)) ∙ mod-eq_of_lt (po
     one y = omega arith
 
 -- factor i of the 2^s factors of a layer, in a table of numbers of d + s + 1 digits
-layer_factor : (q k x n d s i : ℕ) (table : List Factor) → d + suc s ≡ k → n ≡ 2 ^ k → ArePowersReversed q k x n table → i < 2 ^ s
+pub layer_factor : (q k x n d s i : ℕ) (table : List Factor) → d + suc s ≡ k → n ≡ 2 ^ k → ArePowersReversed q k x n table → i < 2 ^ s
     → factor_at (take (2 ^ s) (drop (2 ^ s) table)) i ≡ factor_of q (x ^ (2 ^ d * (2 * bit_reversal s i + 1)) % q)
 layer_factor q k x n d s i table digits size powers below =
     get_or-take (2 ^ s) (drop (2 ^ s) table) i _ below ∙ get_or-drop (2 ^ s) table i _

@@ -1,6 +1,6 @@
 //! The transform of rows of residues, and the way back.
 
-ghost use Rattle.std.specs.Prelude.{◌≡◌, ℕ, ℤ, ◌+◌, ◌-◌, ◌*◌, ◌%◌, ◌^◌, ◌<◌, ◌≤◌, ◌≢◌, ◌↔◌, List, length, slice_index, take, drop, IfOk, Err};
+ghost use Rattle.std.specs.Prelude.{◌≡◌, ℕ, ℤ, ◌+◌, ◌-◌, ◌*◌, ◌%◌, ◌^◌, ◌<◌, ◌≤◌, ◌≢◌, ◌↔◌, List, length, slice_index, IfOk, Err};
 ghost use Rattle.ring_law.specs.Rows.{IsReduced, RowRepresents, row_polynomial};
 ghost use Rattle.lane_rows.specs.Rows.{RowBelow};
 ghost use Rattle.neg_ntt.specs.Butterflies.{ByMiddleRow};
@@ -10,7 +10,7 @@ ghost use Rattle.neg_ntt.specs.Parameters.{AreParameters, IsDegree, IsTransformB
 use crate::layers::{
     forward_layer, forward_two_layers, inverse_last_layer, inverse_last_two_layers, inverse_two_layers,
 };
-use crate::roots::powers_reversed;
+use crate::roots::{inverse_powers_reversed, layer_factors, powers_reversed};
 use lane_rows::fold_row;
 use std::alloc::{AllocError, Global};
 use std::marker::Model;
@@ -87,12 +87,14 @@ impl<const N: usize> Transform<N> {
         let half = m.value() / 2 + 1;
         let inverse_degree = m.pow(half, log_degree as u64);
         let last_root = m.pow(inverse_root, 1 << (log_degree - 1));
+        let roots = powers_reversed(alloc, m, log_degree, psi)?;
+        let inverse_roots = inverse_powers_reversed(alloc, m, log_degree, &roots)?;
         Ok(Transform {
             modulus: *m,
             root: psi,
             log_degree,
-            roots: powers_reversed(alloc, m, log_degree, psi)?,
-            inverse_roots: powers_reversed(alloc, m, log_degree, inverse_root)?,
+            roots,
+            inverse_roots,
             inverse_degree: m.factor(inverse_degree),
             scaled_root: m.factor(m.mul(inverse_degree, last_root)),
         })
@@ -233,16 +235,6 @@ impl<const N: usize> Transform<N> {
         let digits = self.log_degree - (s + 1);
         1 << digits
     }
-}
-
-/// The factors of the layer with `2^s` roots.
-fn layer_factors(powers: &[Factor], s: u32) -> &[Factor]
-    requires layer { s ≤ 14 }
-    requires len { 2 * 2 ^ s ≤ length powers.now }
-    ensures { result.now ≡ take (2 ^ s) (drop (2 ^ s) powers.now) }
-{
-    let count = 1 << s;
-    &powers[count..2 * count]
 }
 
 /// The logarithm of a power of two.
