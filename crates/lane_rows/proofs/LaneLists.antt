@@ -25,12 +25,6 @@ HasLanes-zip2 f xs ys lane len_xs len_ys each =
           get_or-zip2 f xs ys i 0 0 0 in_xs in_ys ∙ each i h;
     }
 
--- an operator on a vector and one word
-pub HasLanes-zip2_replicate : (f : ℕ → ℕ → ℕ) (xs : List ℕ) (y : ℕ) (lane : ℕ → ℕ) → length xs ≡ 4
-    → ((i : ℕ) → i < 4 → f (get_or xs i 0) y ≡ lane i) → HasLanes (zip2 f xs (replicate 4 y)) lane
-HasLanes-zip2_replicate f xs y lane len_xs each =
-    HasLanes-zip2 f xs (replicate 4 y) lane len_xs (length-replicate 4 y) (λ i h. ap (f (get_or xs i 0)) (get_or-replicate 4 i y 0 h) ∙ each i h)
-
 lesser_is : (a b : ℕ) → cond (ltb a b) a b ≡ min a b
 lesser_is a b = grind (arith, nat_tests)
 

@@ -1,6 +1,5 @@
 pub mod ButterflyLemmas
 pub mod Fours
-pub mod HighProduct
 pub mod LaneLists
 pub mod Residues
 pub mod Shoup

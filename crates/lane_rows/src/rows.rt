@@ -121,26 +121,9 @@ pub fn scale_row(q: u64, w: u64, shoup: u64, a: &[u64], out: &mut [u64])
     ensures residues { (i : ℕ) → i < length out.old → slice_index out.new i ≡ (w * slice_index a.now i) % q }
     ensures below { RowBelow q out.new }
 {
-    let whole = scale_chunks(q, w, shoup, a, out);
-    for i in whole..out.len() {
+    for i in 0..out.len() {
         out[i] = words::scale(q, w, shoup, a[i]);
     }
-}
-
-fn scale_chunks(q: u64, w: u64, shoup: u64, a: &[u64], out: &mut [u64]) -> usize
-    requires modulus { (0 < q) × (q < 2 ^ 61) }
-    requires quotient { shoup ≡ w * 2 ^ 64 / q }
-    requires a_length { length a.now ≡ length out.old }
-    ensures whole { result ≡ length out.old / LANES * LANES }
-    ensures residues { (i : ℕ) → i < result → slice_index out.new i ≡ (w * slice_index a.now i) % q }
-{
-    let chunks = out.len() / LANES;
-    for k in 0..chunks {
-        let from = LANES * k;
-        let products = lanes::scale(q, w, shoup, load(a, from));
-        products.copy_to_slice(&mut out[from..]);
-    }
-    chunks * LANES
 }
 
 /// Replaces each word, of any size, by the residue of its product with w, by Shoup's method.
@@ -150,26 +133,9 @@ pub fn scale_row_in_place(q: u64, w: u64, shoup: u64, a: &mut [u64])
     ensures residues { (i : ℕ) → i < length a.old → slice_index a.new i ≡ (w * slice_index a.old i) % q }
     ensures below { RowBelow q a.new }
 {
-    let whole = scale_chunks_in_place(q, w, shoup, a);
-    for i in whole..a.len() {
+    for i in 0..a.len() {
         a[i] = words::scale(q, w, shoup, a[i]);
     }
-}
-
-fn scale_chunks_in_place(q: u64, w: u64, shoup: u64, a: &mut [u64]) -> usize
-    requires modulus { (0 < q) × (q < 2 ^ 61) }
-    requires quotient { shoup ≡ w * 2 ^ 64 / q }
-    ensures whole { result ≡ length a.old / LANES * LANES }
-    ensures residues { (i : ℕ) → i < result → slice_index a.new i ≡ (w * slice_index a.old i) % q }
-    ensures rest { SameFrom a.old a.new result }
-{
-    let chunks = a.len() / LANES;
-    for k in 0..chunks {
-        let from = LANES * k;
-        let products = lanes::scale(q, w, shoup, load(a, from));
-        products.copy_to_slice(&mut a[from..]);
-    }
-    chunks * LANES
 }
 
 /// Replaces each word below 4q by its residue.
