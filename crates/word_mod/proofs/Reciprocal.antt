@@ -69,3 +69,22 @@ shoup_product q w s x pos small es lx =
     unwrapped (2 ^ 64) (x * w) (k * q) (omega arith) le (omega arith) in
     let same : (x * w - k * q) % q ≡ x * w % q = same_remainder q (x * w - k * q) (x * w) k 0 (omega arith) in
     (ap (λ (z : ℕ). z % q) word ∙ same, rw word (omega arith))
+
+-- where 2^s is a quarter to a half of q: from the digits g of a product x above 2^s, and R, 2^(64 + s) by q, the quotient k of x by q comes
+-- out right or one too small
+pub short_near : (P q x R g k e t f : ℕ) → 2 * P ≤ q → q < 4 * P → P ≤ 2 ^ 59 → x < q * q → x ≡ g * P + e → e < P → R * q + t ≡ P * 2 ^ 64 → t < q
+    → g * R ≡ k * 2 ^ 64 + f → f < 2 ^ 64 → (g < 2 ^ 64) × (k * q ≤ x) × (x < (k + 2) * q)
+short_near P q x R g k e t f half quarter small square split_x lt_e split_R lt_t split_k lt_f =
+    let whole : q * q ≤ 4 * P * (4 * P) = mul-le q q (4 * P) (4 * P) (omega arith) (omega arith) in
+    let upper : g * P < 16 * P * P = omega arith in
+    let lt_g : g < 16 * P = lt_of_mul-lt-mul_right P upper in
+    let g_small : g ≤ 2 ^ 63 = omega arith in
+    let by_q : g * R * q ≡ (k * 2 ^ 64 + f) * q = ap (λ (z : ℕ). z * q) split_k in
+    let by_g : g * (R * q + t) ≡ g * (P * 2 ^ 64) = ap (λ (z : ℕ). g * z) split_R in
+    let joined : x * 2 ^ 64 ≡ k * q * 2 ^ 64 + f * q + g * t + e * 2 ^ 64 = omega arith in
+    let f_small : f * q < 2 ^ 64 * q = mul-lt-mul_of_pos_right lt_f (omega arith) in
+    let t_small : g * t ≤ 2 ^ 63 * q = mul-le g t (2 ^ 63) q g_small (omega arith) in
+    let low : k * q * 2 ^ 64 < (x + 1) * 2 ^ 64 = omega arith in
+    let high : x * 2 ^ 64 < (k + 2) * q * 2 ^ 64 = omega arith in
+    let low_less : k * q < x + 1 = lt_of_mul-lt-mul_right (2 ^ 64) low in
+    (omega arith, omega arith, lt_of_mul-lt-mul_right (2 ^ 64) high)

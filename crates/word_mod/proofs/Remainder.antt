@@ -15,6 +15,10 @@ multiples_apart q x y e =
     let split_y : y ≡ y / q * q + y % q = omega arith in
     omega arith
 
+-- a multiple that is taken off leaves the remainder
+pub without_multiple : (a k q : ℕ) → k * q ≤ a → (a - k * q) % q ≡ a % q
+without_multiple a k q le = same_remainder q (a - k * q) a k 0 (omega arith)
+
 -- the remainder by a quotient that leaves less than q
 pub remainder_at : (a k q : ℕ) → k * q ≤ a → a - k * q < q → a - k * q ≡ a % q
 remainder_at a k q le lt =

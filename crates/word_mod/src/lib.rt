@@ -17,6 +17,8 @@ pub struct OutOfRange;
 pub struct Modulus {
     q: u64,
     ratio: u128,
+    shift: u32,
+    short_ratio: u64,
 }
 
 /// A fixed factor `w` of products modulo q, with `shoup`, the quotient of `w * 2^64` by q.
@@ -32,11 +34,11 @@ impl Model for Modulus {
     ghost Value = { ℕ };
 
     ghost use Rattle.word_mod.specs.Moduli.{IsModulus};
-    ghost use Rattle.word_mod.specs.Fields.{ratio_of, fields_of, fields_of-q};
+    ghost use Rattle.word_mod.specs.Fields.{ratio_of, shift_of, short_ratio_of, fields_of, fields_of-q};
 
     ghost view = { λ m. m.q };
 
-    ghost invariant = { λ m. IsModulus m.q × (m.ratio ≡ ratio_of m.q) };
+    ghost invariant = { λ m. IsModulus m.q × (m.ratio ≡ ratio_of m.q) × (m.shift ≡ shift_of m.q) × (m.short_ratio ≡ short_ratio_of m.q) };
 
     ghost inverse = { fields_of };
 
@@ -51,9 +53,12 @@ impl Modulus {
         if q < 3 || q % 2 == 0 || q >= 1 << 61 {
             return Err(OutOfRange);
         }
+        let shift = 62 - q.leading_zeros();
         Ok(Modulus {
             q,
             ratio: u128::MAX / q as u128,
+            shift,
+            short_ratio: ((1 << (64 + shift)) / q as u128) as u64,
         })
     }
 
@@ -70,9 +75,7 @@ impl Modulus {
         ensures value { result ≡ (a + b) % self.now }
         ensures below { result < self.now }
     {
-        let q = self.q;
-        let sum = a + b;
-        if sum >= q { sum - q } else { sum }
+        reduce_once(self.q, a + b)
     }
 
     pub fn sub(&self, a: u64, b: u64) -> u64
@@ -81,7 +84,7 @@ impl Modulus {
         ensures value { result ≡ (a + (self.now - b)) % self.now }
         ensures below { result < self.now }
     {
-        if a >= b { a - b } else { a + (self.q - b) }
+        reduce_once(self.q, a + (self.q - b))
     }
 
     pub fn neg(&self, a: u64) -> u64
@@ -92,14 +95,18 @@ impl Modulus {
         if a == 0 { 0 } else { self.q - a }
     }
 
-    /// The product modulo q by Barrett's reduction.
+    /// The product modulo q by Barrett's method with a ratio of one word: the product is below the square of q, and its quotient
+    /// by q, which the ratio gives from the product's upper digits, is the true one or one less.
     pub fn mul(&self, a: u64, b: u64) -> u64
         requires a_below { a < self.now }
         requires b_below { b < self.now }
         ensures value { result ≡ a * b % self.now }
         ensures below { result < self.now }
     {
-        self.reduce_wide(a as u128 * b as u128)
+        let product = a as u128 * b as u128;
+        let upper = (product >> self.shift) as u64;
+        let quotient = ((upper as u128 * self.short_ratio as u128) >> 64) as u64;
+        reduce_once(self.q, (product - quotient as u128 * self.q as u128) as u64)
     }
 
     pub fn reduce(&self, a: u64) -> u64
@@ -196,8 +203,7 @@ impl Modulus {
         ensures below { result < self.now }
     {
         let q = self.q;
-        let product = self.mul_lazy(x, f);
-        if product >= q { product - q } else { product }
+        reduce_once(q, self.mul_lazy(x, f))
     }
 
     /// The product with a fixed factor, for every word `x`, or that product plus q.
@@ -211,6 +217,16 @@ impl Modulus {
         x.wrapping_mul(f.w)
             .wrapping_sub(quotient.wrapping_mul(self.q))
     }
+}
+
+/// The residue of a word below twice the modulus, without a branch.
+#[inline(always)]
+fn reduce_once(q: u64, x: u64) -> u64
+    requires { x < 2 * q }
+    ensures value { result ≡ x % q }
+    ensures below { result < q }
+{
+    x.min(x.wrapping_sub(q))
 }
 
 /// The upper two words of the product of two numbers of two words.
