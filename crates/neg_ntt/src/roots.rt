@@ -1,8 +1,7 @@
 //! Tables of the powers of a root, in the order in which the layers of a transform take them.
 
-ghost use Rattle.std.specs.Prelude.{◌≡◌, ℕ, suc, ◌+◌, ◌-◌, ◌*◌, ◌%◌, ◌^◌, ◌<◌, ◌≤◌, length, take, drop, IfOk, OnOk};
+ghost use Rattle.std.specs.Prelude.{◌≡◌, ℕ, ◌+◌, ◌*◌, ◌%◌, ◌^◌, ◌<◌, ◌≤◌, length, take, drop, IfOk, OnOk};
 ghost use Rattle.std.specs.List.{SameBelow};
-ghost use Rattle.word_mod.specs.Moduli.{IsModulus};
 ghost use Rattle.neg_ntt.specs.Roots.{ArePowersReversed, factor_at, factor_of};
 
 use std::alloc::{AllocError, Global};
@@ -19,7 +18,7 @@ pub fn powers_reversed(
     requires to_limit { log_degree ≤ 15 }
     ensures { IfOk result (λ powers. ArePowersReversed m.now log_degree x (2 ^ log_degree) powers.items) }
 {
-    let mut powers = Vec::new(alloc);
+    let mut powers = Vec::with_capacity(alloc, 1 << log_degree)?;
     powers.push(m.factor(m.reduce(1)))?;
     let mut digits = log_degree;
     while digits > 0 {
@@ -27,46 +26,6 @@ pub fn powers_reversed(
         append_products(m, m.pow(x, 1 << digits), &mut powers)?;
     }
     Ok(powers)
-}
-
-/// The inverses of the powers of a root x with `x^n = -1`, in the same order, where n is `2^log_degree`: `x^-i` is `-x^(n - i)`, and
-/// the exponents of a layer from its last to its first are n less those from its first to its last.
-pub fn inverse_powers_reversed(
-    alloc: Global,
-    m: &Modulus,
-    log_degree: u32,
-    powers: &[Factor],
-) -> Result<Vec<Factor>, AllocError>
-    requires modulus { IsModulus m.now }
-    requires to_limit { log_degree ≤ 15 }
-    requires len { length powers.now ≡ 2 ^ log_degree }
-    requires below { (i : ℕ) → i < length powers.now → (factor_at powers.now i).w < m.now }
-    ensures { IfOk result (λ inverses. (x : ℕ) → x ^ 2 ^ log_degree % m.now ≡ m.now - 1
-        → ArePowersReversed m.now log_degree x (2 ^ log_degree) powers.now
-        → ArePowersReversed m.now log_degree (x ^ (2 * 2 ^ log_degree - 1) % m.now) (2 ^ log_degree) inverses.items) }
-{
-    let mut inverses = Vec::new(alloc);
-    inverses.push(m.factor(m.reduce(1)))?;
-    for s in 0..log_degree {
-        append_negatives(m, layer_factors(powers, s), &mut inverses)?;
-    }
-    Ok(inverses)
-}
-
-/// Appends the negatives of the roots, from the last one to the first.
-fn append_negatives(m: &Modulus, roots: &[Factor], factors: &mut Vec<Factor>) -> Result<(), AllocError>
-    requires below { (i : ℕ) → i < length roots.now → (factor_at roots.now i).w < m.now }
-    ensures len { OnOk result (length factors.new.items ≡ length factors.old.items + length roots.now) }
-    ensures kept { OnOk result (SameBelow factors.old.items factors.new.items (length factors.old.items)) }
-    ensures negatives { OnOk result ((i : ℕ) → i < length roots.now → factor_at factors.new.items (length factors.old.items + i)
-        ≡ factor_of m.now ((m.now - (factor_at roots.now (length roots.now - suc i)).w) % m.now)) }
-{
-    let count = roots.len();
-    for i in 0..count {
-        let negative = m.neg(roots[count - 1 - i].w);
-        factors.push(m.factor(negative))?;
-    }
-    Ok(())
 }
 
 /// The factors of the layer with `2^s` roots.

@@ -5,12 +5,12 @@ ghost use Rattle.ring_law.specs.Rows.{IsReduced, RowRepresents, row_polynomial};
 ghost use Rattle.lane_rows.specs.Rows.{RowBelow};
 ghost use Rattle.neg_ntt.specs.Butterflies.{ByMiddleRow};
 ghost use Rattle.neg_ntt.specs.Layers.{AreLayerRoots, IsJoined, IsJoinedLast, IsSplit};
-ghost use Rattle.neg_ntt.specs.Parameters.{AreParameters, IsDegree, IsTransformBy, inverse_root, layer_half};
+ghost use Rattle.neg_ntt.specs.Parameters.{AreParameters, IsDegree, IsTransformBy, layer_half};
 
 use crate::layers::{
     forward_layer, forward_two_layers, inverse_last_layer, inverse_last_two_layers, inverse_two_layers,
 };
-use crate::roots::{inverse_powers_reversed, layer_factors, powers_reversed};
+use crate::roots::{layer_factors, powers_reversed};
 use lane_rows::fold_row;
 use std::alloc::{AllocError, Global};
 use std::marker::Model;
@@ -27,15 +27,15 @@ pub enum TransformFault {
     Memory,
 }
 
-/// The transform of degree N modulo q: its tables of powers of the root and of the root's inverse, each in the order in
-/// which the layers take them, the inverse of N, and the product of that with the root of the last layer back.
+/// The transform of degree N modulo q: its table of powers of the root, in the order in which the layers take them, the inverse
+/// of N, and the product of that with the root of the last layer back. The way back takes the same table from its end, as the
+/// inverses of a layer's roots are their negatives in that order.
 #[derive(Drop)]
 pub struct Transform<const N: usize> {
     modulus: Modulus,
     root: u64,
     log_degree: u32,
     roots: Vec<Factor>,
-    inverse_roots: Vec<Factor>,
     inverse_degree: Factor,
     scaled_root: Factor,
 }
@@ -50,7 +50,7 @@ impl<const N: usize> Model for Transform<N> {
     ghost view = { λ t. record { modulus = t.modulus; root = t.root; log_degree = t.log_degree } };
 
     ghost invariant = { λ t. AreTables N (record { modulus = t.modulus; root = t.root; log_degree = t.log_degree })
-        t.roots.items t.inverse_roots.items t.inverse_degree t.scaled_root };
+        t.roots.items t.inverse_degree t.scaled_root };
 }
 
 impl<const N: usize> Transform<N> {
@@ -87,14 +87,11 @@ impl<const N: usize> Transform<N> {
         let half = m.value() / 2 + 1;
         let inverse_degree = m.pow(half, log_degree as u64);
         let last_root = m.pow(inverse_root, 1 << (log_degree - 1));
-        let roots = powers_reversed(alloc, m, log_degree, psi)?;
-        let inverse_roots = inverse_powers_reversed(alloc, m, log_degree, &roots)?;
         Ok(Transform {
             modulus: *m,
             root: psi,
             log_degree,
-            roots,
-            inverse_roots,
+            roots: powers_reversed(alloc, m, log_degree, psi)?,
             inverse_degree: m.factor(inverse_degree),
             scaled_root: m.factor(m.mul(inverse_degree, last_root)),
         })
@@ -184,7 +181,7 @@ impl<const N: usize> Transform<N> {
     {
         let q = self.modulus().value();
         let next = s + 1;
-        let (outer, inner) = (self.inverse_layer_roots(s), self.inverse_layer_roots(next));
+        let (outer, inner) = (self.layer_roots(s), self.layer_roots(next));
         inverse_two_layers(q, outer, inner, self.layer_half(next), row);
     }
 
@@ -207,7 +204,7 @@ impl<const N: usize> Transform<N> {
         ensures reduced { RowBelow self.now.modulus row.new }
     {
         let q = self.modulus.value();
-        let inner = self.inverse_layer_roots(1);
+        let inner = self.layer_roots(1);
         inverse_last_two_layers(q, &self.inverse_degree, &self.scaled_root, inner, self.layer_half(1), row);
     }
 
@@ -217,14 +214,6 @@ impl<const N: usize> Transform<N> {
         ensures { AreLayerRoots self.now self.now.root s result.now }
     {
         layer_factors(&self.roots, s)
-    }
-
-    /// Their inverses.
-    fn inverse_layer_roots(&self, s: u32) -> &[Factor]
-        requires layer { s < self.now.log_degree }
-        ensures { AreLayerRoots self.now (inverse_root N self.now) s result.now }
-    {
-        layer_factors(&self.inverse_roots, s)
     }
 
     /// Half the length of a block where there are `2^s`.

@@ -7,7 +7,7 @@ pub loop-digits-init : goal.loop-digits-init
 loop-digits-init c =
     let q = c.args.m.now in
     let k = c.args.log_degree in
-    let items : c.push.new.self.items ≡ c.factor.result ∷ [] = c.in_ok-push.ensures.items ∙ ap (λ xs. xs ++ c.factor.result ∷ []) c.new-powers.ensures.items in
+    let items : c.push.new.self.items ≡ c.factor.result ∷ [] = c.in_ok-push.ensures.items ∙ ap (λ xs. xs ++ c.factor.result ∷ []) c.in_ok-powers.ensures.items in
     let none : 0 ≡ k - k = omega arith in
     record {
       within = omega arith;

@@ -16,7 +16,7 @@ loop-s-init g c = record {
 pub loop-s-preserved-then-self-s-eq1 : goal.loop-s-preserved-then-self-s-eq1
 loop-s-preserved-then-self-s-eq1 g c =
     let t = c.args.self.now in
-    let tables = subst (λ t. AreTables g.row.N t c.self.inside.roots.items c.self.inside.inverse_roots.items c.self.inside.inverse_degree c.self.inside.scaled_root) c.self.view_is c.self.invariant in
+    let tables = subst (λ t. AreTables g.row.N t c.self.inside.roots.items c.self.inside.inverse_degree c.self.inside.scaled_root) c.self.view_is c.self.invariant in
     let before = c.loop-s.invariant in
     let layer : c.loop-s.s < t.log_degree = omega (arith, c.loop-s-test.true, ap (λ t. t.log_degree) c.self.view_is) in
     record {
@@ -30,7 +30,7 @@ loop-s-preserved-then-self-s-eq1 g c =
 pub loop-s-preserved : goal.loop-s-preserved
 loop-s-preserved g c =
     let t = c.args.self.now in
-    let tables = subst (λ t. AreTables g.row.N t c.self.inside.roots.items c.self.inside.inverse_roots.items c.self.inside.inverse_degree c.self.inside.scaled_root) c.self.view_is c.self.invariant in
+    let tables = subst (λ t. AreTables g.row.N t c.self.inside.roots.items c.self.inside.inverse_degree c.self.inside.scaled_root) c.self.view_is c.self.invariant in
     let before = c.loop-s.invariant in
     let layers = c.split_twice.ensures.layers in
     let s = c.loop-s.s in
@@ -51,7 +51,7 @@ loop-s-preserved g c =
 pub returns-clause-transform : goal.returns-clause-transform
 returns-clause-transform g c a represents j below =
     let t = c.args.self.now in
-    let tables = subst (λ t. AreTables g.row.N t c.self.inside.roots.items c.self.inside.inverse_roots.items c.self.inside.inverse_degree c.self.inside.scaled_root) c.self.view_is c.self.invariant in
+    let tables = subst (λ t. AreTables g.row.N t c.self.inside.roots.items c.self.inside.inverse_degree c.self.inside.scaled_root) c.self.view_is c.self.invariant in
     let row = c.loop-s.row in
     let modulus : c.value.result ≡ t.modulus = c.value.ensures.value ∙ ap (λ t. t.modulus) c.self.view_is in
     let last : c.loop-s.s ≡ t.log_degree = omega (arith, c.loop-s-test.false, c.loop-s.invariant.within, ap (λ t. t.log_degree) c.self.view_is) in

@@ -7,7 +7,7 @@ use Rattle.neg_ntt.proofs.transform.Transform.inverse.Goals as goal
 pub loop-s-init : goal.loop-s-init
 loop-s-init g c =
     let t = c.args.self.now in
-    let tables = subst (λ t. AreTables g.row.N t c.self.inside.roots.items c.self.inside.inverse_roots.items c.self.inside.inverse_degree c.self.inside.scaled_root) c.self.view_is c.self.invariant in
+    let tables = subst (λ t. AreTables g.row.N t c.self.inside.roots.items c.self.inside.inverse_degree c.self.inside.scaled_root) c.self.view_is c.self.invariant in
     let log_degree : c.self.inside.log_degree ≡ t.log_degree = ap (λ t. t.log_degree) c.self.view_is in
     record {
       within = omega (arith, log_degree);
@@ -22,7 +22,7 @@ loop-s-init g c =
 pub loop-s-preserved : goal.loop-s-preserved
 loop-s-preserved g c =
     let t = c.args.self.now in
-    let tables = subst (λ t. AreTables g.row.N t c.self.inside.roots.items c.self.inside.inverse_roots.items c.self.inside.inverse_degree c.self.inside.scaled_root) c.self.view_is c.self.invariant in
+    let tables = subst (λ t. AreTables g.row.N t c.self.inside.roots.items c.self.inside.inverse_degree c.self.inside.scaled_root) c.self.view_is c.self.invariant in
     let before = c.loop-s.invariant in
     let layers = c.join_twice.ensures.layers in
     let s : ℕ = c.loop-s.s - 2 in
@@ -45,7 +45,7 @@ loop-s-preserved g c =
 pub returns-then-s-eq2-clause-unique : goal.returns-then-s-eq2-clause-unique
 returns-then-s-eq2-clause-unique g c a entries r below =
     let t = c.args.self.now in
-    let tables = subst (λ t. AreTables g.row.N t c.self.inside.roots.items c.self.inside.inverse_roots.items c.self.inside.inverse_degree c.self.inside.scaled_root) c.self.view_is c.self.invariant in
+    let tables = subst (λ t. AreTables g.row.N t c.self.inside.roots.items c.self.inside.inverse_degree c.self.inside.scaled_root) c.self.view_is c.self.invariant in
     let layers = c.join_last_twice.ensures.layers in
     let two = log_from_two g.row.N t.log_degree tables.parameters.power tables.parameters.from_four in
     let second : 1 < t.log_degree = omega (arith, two) in
@@ -59,7 +59,7 @@ returns-then-s-eq2-clause-unique g c a entries r below =
 pub returns-then-s-eq2-clause-transform : goal.returns-then-s-eq2-clause-transform
 returns-then-s-eq2-clause-transform g c =
     let t = c.args.self.now in
-    let tables = subst (λ t. AreTables g.row.N t c.self.inside.roots.items c.self.inside.inverse_roots.items c.self.inside.inverse_degree c.self.inside.scaled_root) c.self.view_is c.self.invariant in
+    let tables = subst (λ t. AreTables g.row.N t c.self.inside.roots.items c.self.inside.inverse_degree c.self.inside.scaled_root) c.self.view_is c.self.invariant in
     let last = c.join_last_twice.ensures.layers.second in
     IsTransform-from_unique t.modulus t.root t.log_degree last.scale c.args.row.now c.join_last_twice.new.row (omega (arith, tables.parameters.modulus.from_three))
     (AreParameters-minus_one g.row.N t tables.parameters) (subst (λ n. last.scale * n % t.modulus ≡ 1) tables.parameters.power last.is_inverse)
@@ -69,7 +69,7 @@ returns-then-s-eq2-clause-transform g c =
 pub returns-else-s-eq2-clause-unique : goal.returns-else-s-eq2-clause-unique
 returns-else-s-eq2-clause-unique g c a entries r below =
     let t = c.args.self.now in
-    let tables = subst (λ t. AreTables g.row.N t c.self.inside.roots.items c.self.inside.inverse_roots.items c.self.inside.inverse_degree c.self.inside.scaled_root) c.self.view_is c.self.invariant in
+    let tables = subst (λ t. AreTables g.row.N t c.self.inside.roots.items c.self.inside.inverse_degree c.self.inside.scaled_root) c.self.view_is c.self.invariant in
     let at_one : c.loop-s.s ≡ 1 = omega (arith, c.if-s-eq2.false, c.loop-s-test.false, c.loop-s.invariant.from_one) in
     let inside : r < length c.join_last.new.row = omega (arith, c.loop-s.invariant.len, below) in
     residue-joined g.row.N t tables.parameters a c.loop-s.row c.join_last.new.row c.join_last.ensures.joined
@@ -79,7 +79,7 @@ returns-else-s-eq2-clause-unique g c a entries r below =
 pub returns-else-s-eq2-clause-transform : goal.returns-else-s-eq2-clause-transform
 returns-else-s-eq2-clause-transform g c =
     let t = c.args.self.now in
-    let tables = subst (λ t. AreTables g.row.N t c.self.inside.roots.items c.self.inside.inverse_roots.items c.self.inside.inverse_degree c.self.inside.scaled_root) c.self.view_is c.self.invariant in
+    let tables = subst (λ t. AreTables g.row.N t c.self.inside.roots.items c.self.inside.inverse_degree c.self.inside.scaled_root) c.self.view_is c.self.invariant in
     let last = c.join_last.ensures.joined in
     IsTransform-from_unique t.modulus t.root t.log_degree last.scale c.args.row.now c.join_last.new.row (omega (arith, tables.parameters.modulus.from_three))
     (AreParameters-minus_one g.row.N t tables.parameters) (subst (λ n. last.scale * n % t.modulus ≡ 1) tables.parameters.power last.is_inverse)

@@ -7,21 +7,21 @@ use Rattle.neg_ntt.proofs.transform.Transform.layer_roots.Goals as goal
 pub layer_factors-requires-clause-layer : goal.layer_factors-requires-clause-layer
 layer_factors-requires-clause-layer g c =
     let t = c.args.self.now in
-    let tables = subst (λ t. AreTables g.row.N t c.self.inside.roots.items c.self.inside.inverse_roots.items c.self.inside.inverse_degree c.self.inside.scaled_root) c.self.view_is c.self.invariant in
+    let tables = subst (λ t. AreTables g.row.N t c.self.inside.roots.items c.self.inside.inverse_degree c.self.inside.scaled_root) c.self.view_is c.self.invariant in
     let limit = log_limit t.log_degree (subst (λ n. n ≤ 32768) tables.parameters.power tables.parameters.to_limit) in
     omega (arith, c.requires.layer)
 
 pub layer_factors-requires-clause-len : goal.layer_factors-requires-clause-len
 layer_factors-requires-clause-len g c =
     let t = c.args.self.now in
-    let tables = subst (λ t. AreTables g.row.N t c.self.inside.roots.items c.self.inside.inverse_roots.items c.self.inside.inverse_degree c.self.inside.scaled_root) c.self.view_is c.self.invariant in
+    let tables = subst (λ t. AreTables g.row.N t c.self.inside.roots.items c.self.inside.inverse_degree c.self.inside.scaled_root) c.self.view_is c.self.invariant in
     let within = layer_within t.log_degree c.args.s c.requires.layer in
     omega (arith, tables.root_powers.len, tables.parameters.power, ap length c.deref.ensures.value)
 
 pub returns : goal.returns
 returns g c =
     let t = c.args.self.now in
-    let tables = subst (λ t. AreTables g.row.N t c.self.inside.roots.items c.self.inside.inverse_roots.items c.self.inside.inverse_degree c.self.inside.scaled_root) c.self.view_is c.self.invariant in
+    let tables = subst (λ t. AreTables g.row.N t c.self.inside.roots.items c.self.inside.inverse_degree c.self.inside.scaled_root) c.self.view_is c.self.invariant in
     let s = c.args.s in
     let table = c.self.inside.roots.items in
     let factors = c.layer_factors.result.now in

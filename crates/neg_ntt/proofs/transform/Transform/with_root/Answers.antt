@@ -26,11 +26,7 @@ invariant_of-result g c =
         from_four = degree.from_four;
         to_limit = degree.to_limit;
       };
-      root_powers = subst (λ n. ArePowersReversed q k c.args.psi n c.in_ok-roots.roots.items) (sym power) c.in_ok-roots.ensures;
-      inverse_root_powers =
-          subst (λ n. ArePowersReversed q k (c.args.psi ^ (2 * n - 1) % q) n c.in_ok-inverse_roots.inverse_roots.items) (sym power)
-          (c.in_ok-inverse_roots.ensures c.args.psi (subst (λ n. c.args.psi ^ n % q ≡ q - 1) power c.requires.minus_one)
-          (subst (λ roots. ArePowersReversed q k c.args.psi (2 ^ k) roots) (sym c.deref.ensures.value) c.in_ok-roots.ensures));
+      root_powers = subst (λ n. ArePowersReversed q k c.args.psi n c.in_ok-powers_reversed.field-0.items) (sym power) c.in_ok-powers_reversed.ensures;
       inverse_degree_is = ap (λ (w : ℕ). w * g.row.N % q) (c.factor.ensures.w ∙ half) ∙ ap (λ (n : ℕ). ((q / 2 + 1) ^ k % q) * n % q) power ∙ power_of_half q k c.value.ensures.modulus.odd c.value.ensures.modulus.from_three;
       inverse_degree_shoup = c.factor.ensures.shoup ∙ ap (shoup_of q) (sym c.factor.ensures.w);
       scaled_root_is = c.factor-2.ensures.w ∙ c.mul.ensures.value ∙ ap₂ (λ (w r : ℕ). w * r % q) (sym c.factor.ensures.w) last_root;
