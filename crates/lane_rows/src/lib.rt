@@ -15,7 +15,9 @@ mod words;
 
 pub use pairs::{butterflies, butterflies_back, scaled_butterflies_back};
 pub use rows::{add_row, fold_row, neg_row, scale_row, scale_row_in_place, sub_row};
-pub use two_layers::{Root, butterflies_back_twice, butterflies_twice, scaled_butterflies_back_twice};
+pub use two_layers::{
+    Root, butterflies_back_twice, butterflies_twice, scaled_butterflies_back_twice,
+};
 
 /// How many places a loop of butterflies goes over at once: the compiler writes an inner loop of a fixed length out, word by word,
 /// and doesn't put its words into lanes, which have no product of two words.

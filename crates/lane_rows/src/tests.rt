@@ -1,6 +1,7 @@
 // The calls in lanes against arithmetic on 128-bit words, at lengths round a whole number of chunks and at
 // words round the edges of their ranges.
 ghost use Rattle.std.specs.Prelude.{◌≡◌, ℕ, ◌+◌, ◌*◌, ◌/◌, ◌%◌, ◌^◌, ◌<◌, ◌≤◌, length};
+ghost use Rattle.lane_rows.specs.Butterflies.{HasQuotient};
 ghost use Rattle.lane_rows.specs.Rows.{RowBelow};
 
 use super::*;
@@ -161,6 +162,159 @@ fn check_butterflies_back(
     }
 }
 
+// The residue of x + y * w, where a negative sign is a factor q - w.
+fn combined(q: u64, x: u64, w: u64, y: u64) -> u64
+    requires { 0 < q }
+    ensures { result < q }
+{
+    ((u128::from(x) + u128::from(y) * u128::from(w)) % u128::from(q)) as u64
+}
+
+fn root(q: u64, w: u64) -> Root
+    requires { w < q }
+    ensures w { result.w ≡ w }
+    ensures quotient { HasQuotient q result }
+{
+    Root {
+        w,
+        shoup: quotient(q, w),
+    }
+}
+
+// A block of four quarters becomes what two layers of pairs make of the words of `old`, of the factors w, 1 and q - 1 - w.
+fn check_two_layers(
+    rt: &impl Abort,
+    q: u64,
+    w: u64,
+    quarter: usize,
+    old: &mut [u64],
+    block: &mut [u64],
+)
+    requires modulus { (2 < q) × (q < 2 ^ 61) }
+    requires factor { w < q }
+    requires old_length { length old.old ≡ 4 * quarter }
+    requires block_length { length block.old ≡ 4 * quarter }
+{
+    let v = q - 1 - w;
+    edges(4 * q, 0, old);
+    edges(4 * q, 0, block);
+    butterflies_twice(q, root(q, w), root(q, 1), root(q, v), quarter, block);
+    for i in 0..quarter {
+        let (a, b) = (old[i], old[quarter + i]);
+        let (c, d) = (old[2 * quarter + i], old[3 * quarter + i]);
+        let (low_a, low_b) = (combined(q, a, w, c), combined(q, b, w, d));
+        let (high_c, high_d) = (combined(q, a, q - w, c), combined(q, b, q - w, d));
+        assert_eq!(rt;
+            block[i] % q,
+            combined(q, low_a, 1, low_b),
+            "{q}, {w} at {i}"
+        );
+        assert_eq!(rt;
+            block[quarter + i] % q,
+            combined(q, low_a, q - 1, low_b),
+            "{q}, {w} at {i}"
+        );
+        assert_eq!(rt;
+            block[2 * quarter + i] % q,
+            combined(q, high_c, v, high_d),
+            "{q}, {w} at {i}"
+        );
+        assert_eq!(rt;
+            block[3 * quarter + i] % q,
+            combined(q, high_c, q - v, high_d),
+            "{q}, {w} at {i}"
+        );
+    }
+}
+
+// The same on the way back, once as it is and once scaled by w, of which the factor of the outer layer has been made a part.
+fn check_two_layers_back(
+    rt: &impl Abort,
+    q: u64,
+    w: u64,
+    quarter: usize,
+    old: &mut [u64],
+    block: &mut [u64],
+)
+    requires modulus { (2 < q) × (q < 2 ^ 61) }
+    requires factor { w < q }
+    requires old_length { length old.old ≡ 4 * quarter }
+    requires block_length { length block.old ≡ 4 * quarter }
+{
+    let v = q - 1 - w;
+    edges(2 * q, 0, old);
+    edges(2 * q, 0, block);
+    butterflies_back_twice(q, root(q, w), root(q, 1), root(q, v), quarter, block);
+    for i in 0..quarter {
+        let (a, b) = (old[i], old[quarter + i]);
+        let (c, d) = (old[2 * quarter + i], old[3 * quarter + i]);
+        let (sum, other) = (combined(q, a, 1, b), combined(q, c, 1, d));
+        assert_eq!(rt; block[i] % q, combined(q, sum, 1, other), "{q}, {w} at {i}");
+        let difference = combined(q, sum, q - 1, other);
+        assert_eq!(rt;
+            block[2 * quarter + i] % q,
+            combined(q, 0, w, difference),
+            "{q}, {w} at {i}"
+        );
+    }
+    edges(2 * q, 0, block);
+    let scaled = combined(q, 0, w, w);
+    scaled_butterflies_back_twice(
+        q,
+        root(q, w),
+        root(q, scaled),
+        root(q, 1),
+        root(q, v),
+        quarter,
+        block,
+    );
+    for i in 0..quarter {
+        let (a, b) = (old[i], old[quarter + i]);
+        let (c, d) = (old[2 * quarter + i], old[3 * quarter + i]);
+        let low = combined(q, a, q - 1, b);
+        let high = combined(q, 0, v, combined(q, c, q - 1, d));
+        assert_eq!(rt;
+            block[quarter + i],
+            combined(q, 0, w, combined(q, low, 1, high)),
+            "{q}, {w} at {i}"
+        );
+        let difference = combined(q, low, q - 1, high);
+        assert_eq!(rt;
+            block[3 * quarter + i],
+            combined(q, 0, scaled, difference),
+            "{q}, {w} at {i}"
+        );
+    }
+}
+
+// The pairs of the last layer back, scaled by w.
+fn check_scaled_butterflies_back(
+    rt: &impl Abort,
+    q: u64,
+    w: u64,
+    x: &mut [u64],
+    lo: &mut [u64],
+    hi: &mut [u64],
+)
+    requires modulus { (2 < q) × (q < 2 ^ 61) }
+    requires factor { w < q }
+    requires lo_length { length lo.old ≡ length x.old }
+    requires hi_length { length hi.old ≡ length x.old }
+{
+    edges(2 * q, 0, x);
+    edges(2 * q, 0, lo);
+    edges(2 * q, 0, hi);
+    scaled_butterflies_back(q, root(q, w), root(q, 1), lo, hi);
+    for i in 0..x.len() {
+        assert_eq!(rt;
+            lo[i],
+            combined(q, combined(q, 0, w, x[i]), w, x[i]),
+            "{q}, {w} at {i}"
+        );
+        assert_eq!(rt; hi[i], 0, "{q}, {w} at {i}");
+    }
+}
+
 // Each call at a modulus and a length.
 fn check_calls(rt: &impl Abort, alloc: Global, q: u64, len: usize) -> Result<(), Fail>
     requires modulus { (2 < q) × (q < 2 ^ 61) }
@@ -188,6 +342,25 @@ fn check_calls(rt: &impl Abort, alloc: Global, q: u64, len: usize) -> Result<(),
         check_products(rt, q, w, a, b);
         check_butterflies(rt, q, w, a, b, c, d);
         check_butterflies_back(rt, q, w, a, b, c, d);
+        check_scaled_butterflies_back(rt, q, w, a, b, c);
+    }
+    Ok(())
+}
+
+// Two layers at a modulus and a length of the quarters.
+fn check_blocks(rt: &impl Abort, alloc: Global, q: u64, quarter: usize) -> Result<(), Fail>
+    requires modulus { (2 < q) × (q < 2 ^ 61) }
+    requires quarter { quarter ≤ 31 }
+{
+    let words = 4 * quarter;
+    let mut old = vec![in alloc; 0; words]?;
+    let mut block = vec![in alloc; 0; words]?;
+    let (old, block) = (old.as_mut_slice(), block.as_mut_slice());
+    for w in [0, 1, q / 2, q - 1] {
+        if w < q {
+            check_two_layers(rt, q, w, quarter, old, block);
+            check_two_layers_back(rt, q, w, quarter, old, block);
+        }
     }
     Ok(())
 }
@@ -198,6 +371,8 @@ fn calls_agree_word_by_word(rt: HostRuntime) -> Result<(), Fail> {
         assert!(rt; 2 < q && q < 1 << 61);
         for len in LENGTHS {
             check_calls(&rt, rt.alloc(), q, len)?;
+            assert!(rt; len <= 31);
+            check_blocks(&rt, rt.alloc(), q, len)?;
         }
     }
     Ok(())

@@ -47,15 +47,7 @@ pub fn butterflies_twice(
 
 /// The two layers of the words at one place of the quarters.
 #[inline(always)]
-fn step(
-    q: u64,
-    outer: Root,
-    first: Root,
-    second: Root,
-    quarter: usize,
-    i: usize,
-    block: &mut [u64],
-)
+fn step(q: u64, outer: Root, first: Root, second: Root, quarter: usize, i: usize, block: &mut [u64])
     requires modulus { (0 < q) × (q < 2 ^ 61) }
     requires outer_quotient { HasQuotient q outer }
     requires first_quotient { HasQuotient q first }
@@ -69,7 +61,13 @@ fn step(
         → slice_index block.new j ≡ slice_index block.old j }
 {
     let (a, c) = butterfly(q, outer.w, outer.shoup, block[i], block[2 * quarter + i]);
-    let (b, d) = butterfly(q, outer.w, outer.shoup, block[quarter + i], block[3 * quarter + i]);
+    let (b, d) = butterfly(
+        q,
+        outer.w,
+        outer.shoup,
+        block[quarter + i],
+        block[3 * quarter + i],
+    );
     let (new_a, new_b) = butterfly(q, first.w, first.shoup, a, b);
     let (new_c, new_d) = butterfly(q, second.w, second.shoup, c, d);
     block[i] = new_a;
@@ -133,7 +131,13 @@ fn step_back(
         → slice_index block.new j ≡ slice_index block.old j }
 {
     let (a, b) = butterfly_back(q, first.w, first.shoup, block[i], block[quarter + i]);
-    let (c, d) = butterfly_back(q, second.w, second.shoup, block[2 * quarter + i], block[3 * quarter + i]);
+    let (c, d) = butterfly_back(
+        q,
+        second.w,
+        second.shoup,
+        block[2 * quarter + i],
+        block[3 * quarter + i],
+    );
     let (new_a, new_c) = butterfly_back(q, outer.w, outer.shoup, a, c);
     let (new_b, new_d) = butterfly_back(q, outer.w, outer.shoup, b, d);
     block[i] = new_a;
@@ -167,7 +171,16 @@ pub fn scaled_butterflies_back_twice(
     let chunks = quarter / UNROLLED;
     'chunks: for k in 0..chunks {
         'places: for r in 0..UNROLLED {
-            scaled_step_back(q, scale, outer, first, second, quarter, UNROLLED * k + r, block);
+            scaled_step_back(
+                q,
+                scale,
+                outer,
+                first,
+                second,
+                quarter,
+                UNROLLED * k + r,
+                block,
+            );
         }
     }
     'rest: for i in UNROLLED * chunks..quarter {
@@ -202,7 +215,13 @@ fn scaled_step_back(
         → slice_index block.new j ≡ slice_index block.old j }
 {
     let (a, b) = butterfly_back(q, first.w, first.shoup, block[i], block[quarter + i]);
-    let (c, d) = butterfly_back(q, second.w, second.shoup, block[2 * quarter + i], block[3 * quarter + i]);
+    let (c, d) = butterfly_back(
+        q,
+        second.w,
+        second.shoup,
+        block[2 * quarter + i],
+        block[3 * quarter + i],
+    );
     let (new_a, new_c) = scaled_butterfly_back(q, scale, outer, a, c);
     let (new_b, new_d) = scaled_butterfly_back(q, scale, outer, b, d);
     block[i] = new_a;

@@ -33,8 +33,12 @@ EachBlock-parts P count half old new parts i r below inside =
     let low : r < 2 * half = omega arith in
     let high : half + r < 2 * half = omega arith in
     let pair = parts i below r inside in
-    rw (part_word (2 * half) (i * (2 * half)) old r low, part_word (2 * half) (i * (2 * half)) old (half + r) high,
-      part_word (2 * half) (i * (2 * half)) new r low, part_word (2 * half) (i * (2 * half)) new (half + r) high) at pair
+    rw (
+      part_word (2 * half) (i * (2 * half)) old r low,
+      part_word (2 * half) (i * (2 * half)) old (half + r) high,
+      part_word (2 * half) (i * (2 * half)) new r low,
+      part_word (2 * half) (i * (2 * half)) new (half + r) high,
+    ) at pair
 
 -- a row that is one block
 pub EachBlock-one : (P : ℕ → ℕ → ℕ → ℕ → ℕ → Type 0) (half : ℕ) (old new : List ℕ) → EachPair (P 0) half old new → EachBlock P 1 half old new

@@ -51,8 +51,7 @@ module _ (outer first second : ℕ → ℕ → ℕ → ℕ → Type 0) (quarter 
 
   words : EachFour (TwoLayers outer first second) quarter old new → (i : ℕ) → i < quarter → (m : MiddleWords) × AreMiddle i m
   words fours i inside =
-      let four = fours i inside in
-      (
+      let four = fours i inside in (
         record { a = four.middle_a; b = four.middle_b; c = four.middle_c; d = four.middle_d },
         record { outer_a = four.outer_a; outer_b = four.outer_b; first_half = four.first_half; second_half = four.second_half },
       )
@@ -158,7 +157,7 @@ middle_row P Q width (suc count) old new each =
     let here = each 0 (omega arith) in
     let m : List ℕ = here.0 in
     let rest = middle_row (λ i. P (suc i)) (λ i. Q (suc i)) width count (drop width old) (drop width new)
-        (λ i l. rw (← tail_part width i old, ← tail_part width i new) (each (suc i) (omega arith))) in
+    (λ i l. rw (← tail_part width i old, ← tail_part width i new) (each (suc i) (omega arith))) in
     let at_first : take width (drop (0 * width) (m ++ rest.middle)) ≡ m = first_part width (m ++ rest.middle) ∙ take_at m rest.middle width here.1 in
     let behind : drop width (m ++ rest.middle) ≡ rest.middle = drop_at m rest.middle width here.1 in
     record {
@@ -202,8 +201,12 @@ module _ (A B : ℕ → ℕ → ℕ → ℕ → ℕ → Type 0) (count inner_cou
       let low : i * (4 * quarter) + (2 * quarter + r) ≡ (2 * i + 1) * (2 * quarter) + r = omega arith in
       let high : i * (4 * quarter) + (3 * quarter + r) ≡ (2 * i + 1) * (2 * quarter) + (quarter + r) = omega arith in
       subst at (sym h.1)
-      (rw (word xs i (2 * quarter + r) _ (omega arith) low, word xs i (3 * quarter + r) _ (omega arith) high, word new i (2 * quarter + r) _ (omega arith) low,
-        word new i (3 * quarter + r) _ (omega arith) high) at pair))
+      (rw (
+        word xs i (2 * quarter + r) _ (omega arith) low,
+        word xs i (3 * quarter + r) _ (omega arith) high,
+        word new i (2 * quarter + r) _ (omega arith) low,
+        word new i (3 * quarter + r) _ (omega arith) high,
+      ) at pair))
       (even_or_odd j)
     where
       at : ℕ → Type 0
@@ -226,7 +229,7 @@ module _ (A B : ℕ → ℕ → ℕ → ℕ → ℕ → Type 0) (count inner_cou
       rows = middle_row (λ i. EachPair (A i) (2 * quarter)) (λ i. BothHalves (B (2 * i)) (B (2 * i + 1)) quarter) (4 * quarter) count old new
           (λ i below.
           let m = middle_block (A i) (B (2 * i)) (B (2 * i + 1)) quarter (take (4 * quarter) (drop (i * (4 * quarter)) old))
-              (take (4 * quarter) (drop (i * (4 * quarter)) new)) (fours i below) in
+          (take (4 * quarter) (drop (i * (4 * quarter)) new)) (fours i below) in
           (m.0, m.1.len, m.1.halves, record { first_half = m.1.first_half; second_half = m.1.second_half }))
 
 -- the way back is the way there, from the new row to the old one
@@ -235,16 +238,16 @@ pub ByMiddleRow-fours_back : (A B : ℕ → ℕ → ℕ → ℕ → ℕ → Type
     → ByMiddleRow (EachBlock B inner_count quarter) (EachBlock A count (2 * quarter)) old new
 ByMiddleRow-fours_back A B count inner_count quarter old new twice fours =
     let turned = ByMiddleRow-fours (λ i x y s d. A i s d x y) (λ i x y s d. B i s d x y) count inner_count quarter new old twice
-        (λ i below r inside.
-        let four = fours i below r inside in
-        record {
-          middle_a = four.middle_a;
-          middle_b = four.middle_b;
-          middle_c = four.middle_c;
-          middle_d = four.middle_d;
-          outer_a = four.outer_a;
-          outer_b = four.outer_b;
-          first_half = four.first_half;
-          second_half = four.second_half;
-        }) in
+    (λ i below r inside.
+    let four = fours i below r inside in
+    record {
+      middle_a = four.middle_a;
+      middle_b = four.middle_b;
+      middle_c = four.middle_c;
+      middle_d = four.middle_d;
+      outer_a = four.outer_a;
+      outer_b = four.outer_b;
+      first_half = four.first_half;
+      second_half = four.second_half;
+    }) in
     record { middle = turned.middle; first = turned.second; second = turned.first }

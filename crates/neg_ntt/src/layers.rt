@@ -79,7 +79,15 @@ pub fn inverse_last_two_layers(
     ensures reduced { RowBelow q row.new }
 {
     let (first, second) = (negative_of(q, &inner[1]), negative_of(q, &inner[0]));
-    scaled_butterflies_back_twice(q, root_of(scale), root_of(outer), first, second, quarter, row);
+    scaled_butterflies_back_twice(
+        q,
+        root_of(scale),
+        root_of(outer),
+        first,
+        second,
+        quarter,
+        row,
+    );
 }
 
 /// Two layers at once: takes each block of `4 * quarter` words, in words below 4q, apart into two by the roots `outer`, and
@@ -110,13 +118,7 @@ pub fn forward_two_layers(
 
 /// The same, with the layers of each block told.
 #[inline(always)]
-fn forward_blocks(
-    q: u64,
-    outer: &[Factor],
-    inner: &[Factor],
-    quarter: usize,
-    row: &mut [u64],
-)
+fn forward_blocks(q: u64, outer: &[Factor], inner: &[Factor], quarter: usize, row: &mut [u64])
     requires modulus { IsModulus q }
     requires outer_quotients { HaveQuotients q outer.now }
     requires inner_quotients { HaveQuotients q inner.now }
@@ -132,7 +134,14 @@ fn forward_blocks(
     for i in 0..outer.len() {
         let end = start + 4 * quarter;
         let (first, second) = (root_of(&inner[2 * i]), root_of(&inner[2 * i + 1]));
-        butterflies_twice(q, root_of(&outer[i]), first, second, quarter, &mut row[start..end]);
+        butterflies_twice(
+            q,
+            root_of(&outer[i]),
+            first,
+            second,
+            quarter,
+            &mut row[start..end],
+        );
         start = end;
     }
 }
@@ -165,13 +174,7 @@ pub fn inverse_two_layers(
 
 /// The same, with the layers of each block told.
 #[inline(always)]
-fn inverse_blocks(
-    q: u64,
-    outer: &[Factor],
-    inner: &[Factor],
-    quarter: usize,
-    row: &mut [u64],
-)
+fn inverse_blocks(q: u64, outer: &[Factor], inner: &[Factor], quarter: usize, row: &mut [u64])
     requires modulus { IsModulus q }
     requires outer_negatives { HaveNegatives q outer.now }
     requires inner_negatives { HaveNegatives q inner.now }

@@ -132,6 +132,9 @@ fn products_agree_with_those_by_all_pairs(rt: HostRuntime) -> Result<(), Fail> {
     for (q, psi) in [(12289, 3400), (2305843009213687297, 502364153934162438)] {
         check_products::<256>(&rt, rt.alloc(), q, psi)?;
     }
+    for (q, psi) in [(12289, 10302), (2305843009213683713, 707355631940785515)] {
+        check_products::<512>(&rt, rt.alloc(), q, psi)?;
+    }
     for (q, psi) in [
         (12289, 1945),
         (65537, 61869),

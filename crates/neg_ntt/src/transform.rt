@@ -8,7 +8,8 @@ ghost use Rattle.neg_ntt.specs.Layers.{AreLayerRoots, IsJoined, IsJoinedLast, Is
 ghost use Rattle.neg_ntt.specs.Parameters.{AreParameters, IsDegree, IsTransformBy, layer_half};
 
 use crate::layers::{
-    forward_layer, forward_two_layers, inverse_last_layer, inverse_last_two_layers, inverse_two_layers,
+    forward_layer, forward_two_layers, inverse_last_layer, inverse_last_two_layers,
+    inverse_two_layers,
 };
 use crate::roots::{layer_factors, powers_reversed};
 use lane_rows::fold_row;
@@ -193,7 +194,13 @@ impl<const N: usize> Transform<N> {
         ensures reduced { RowBelow self.now.modulus row.new }
     {
         let q = self.modulus.value();
-        inverse_last_layer(q, &self.inverse_degree, &self.scaled_root, self.layer_half(0), row);
+        inverse_last_layer(
+            q,
+            &self.inverse_degree,
+            &self.scaled_root,
+            self.layer_half(0),
+            row,
+        );
     }
 
     /// The last two layers back, with the scaling by the inverse of N. The words are reduced.
@@ -205,7 +212,14 @@ impl<const N: usize> Transform<N> {
     {
         let q = self.modulus.value();
         let inner = self.layer_roots(1);
-        inverse_last_two_layers(q, &self.inverse_degree, &self.scaled_root, inner, self.layer_half(1), row);
+        inverse_last_two_layers(
+            q,
+            &self.inverse_degree,
+            &self.scaled_root,
+            inner,
+            self.layer_half(1),
+            row,
+        );
     }
 
     /// The roots of the layer with `2^s` blocks.

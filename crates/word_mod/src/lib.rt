@@ -134,7 +134,11 @@ impl Modulus {
     {
         let quotient = high_product(a, self.ratio);
         let rest = (a - quotient * self.q as u128) as u64;
-        if rest >= self.q { (quotient + 1, rest - self.q) } else { (quotient, rest) }
+        if rest >= self.q {
+            (quotient + 1, rest - self.q)
+        } else {
+            (quotient, rest)
+        }
     }
 
     /// The power of any word modulo q by squarings. The power with exponent 0 is 1.

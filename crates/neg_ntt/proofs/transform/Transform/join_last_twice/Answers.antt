@@ -38,7 +38,7 @@ returns-clause-layers g c =
     let inner = c.layer_roots-inner.result.now in
     let old = c.args.row.now in
     let pairs = subst (λ q. EachBlock (λ i. IsButterflyBack q (negative_from_last q inner i)) (length inner) quarter old layers.middle) modulus
-        (subst (λ n. EachBlock (λ i. IsButterflyBack c.value-q.result (negative_from_last c.value-q.result inner i)) n quarter old layers.middle) (sym c.layer_roots-inner.ensures.len) layers.first) in
+    (subst (λ n. EachBlock (λ i. IsButterflyBack c.value-q.result (negative_from_last c.value-q.result inner i)) n quarter old layers.middle) (sym c.layer_roots-inner.ensures.len) layers.first) in
     record {
       middle = layers.middle;
       first = subst (λ h. EachBlock (λ i. IsButterflyBack t.modulus (layer_root (inverse_root g.row.N t) t 1 i)) (2 ^ 1) h old layers.middle) c.layer_half.ensures

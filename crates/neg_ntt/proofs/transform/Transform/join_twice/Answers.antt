@@ -35,7 +35,7 @@ inverse_two_layers-requires-clause-blocks g c =
     let half = c.layer_half.result in
     let below : c.args.s < t.log_degree = (let l = c.requires.layers in omega arith) in
     let row = layer_row g.row.N t.log_degree c.args.s (length c.layer_roots-outer.result.now) (2 * half) (length c.args.row.now) c.requires.len
-        c.modulus.ensures.parameters.power below c.layer_roots-outer.ensures.len (two_quarters t.log_degree c.args.s half c.requires.layers c.layer_half.ensures) in
+    c.modulus.ensures.parameters.power below c.layer_roots-outer.ensures.len (two_quarters t.log_degree c.args.s half c.requires.layers c.layer_half.ensures) in
     let four : 2 * (2 * half) ≡ 4 * half = omega arith in
     subst (λ width. length c.args.row.now ≡ length c.layer_roots-outer.result.now * width) four row
 
