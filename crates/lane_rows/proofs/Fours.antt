@@ -1,8 +1,8 @@
 -- Words at one place of each quarter of a block.
-use Rattle.std.proofs.Common.{◌≡◌, ◌≢◌, ℕ, ◌+◌, ◌-◌, ◌*◌, ◌<◌, ◌≤◌, ◌∙◌, List, length, get_or, set, arith, refl, subst, sym, ⊎_elim, below_more, get_or-set_other, get_or-set_same}
+use Rattle.std.proofs.Common.{◌≡◌, ◌≢◌, ℕ, ◌+◌, ◌-◌, ◌*◌, ◌<◌, ◌≤◌, ◌∙◌, List, length, get_or, set, arith, subst, sym, ⊎_elim, below_more, get_or-set_other, get_or-set_same}
 use Rattle.std.proofs.lemmas.Bool.{cases_eq, cases_lt}
 use Rattle.std.proofs.lemmas.List.{length-set}
-use Rattle.lane_rows.specs.Butterflies.{EachFour, FourAt, FourBelow}
+use Rattle.lane_rows.specs.Butterflies.{FourAt, FourBelow}
 use Rattle.lane_rows.specs.Rows.{RowBelow}
 
 -- a row with one word replaced
@@ -79,13 +79,6 @@ pub record FoursDone (P : ℕ → ℕ → ℕ → ℕ → ℕ → ℕ → ℕ �
   pub done : (j : ℕ) → j < n → FourAt P quarter j first block
   pub rest : (j : ℕ) → n ≤ j → j < quarter → SameFour quarter j first block
   pub below : RowBelow bound block
-
-pub FoursDone-none : (P : ℕ → ℕ → ℕ → ℕ → ℕ → ℕ → ℕ → ℕ → Type 0) (bound quarter : ℕ) (block : List ℕ) → RowBelow bound block → FoursDone P bound quarter block block 0
-FoursDone-none P bound quarter block below = record {
-  done = λ j l. absurd (omega arith);
-  rest = λ j l inside. record { a = refl; b = refl; c = refl; d = refl };
-  below = below;
-}
 
 -- one place more
 pub FoursDone-more : (P : ℕ → ℕ → ℕ → ℕ → ℕ → ℕ → ℕ → ℕ → Type 0) (bound quarter : ℕ) (first old new : List ℕ) (n : ℕ) → n < quarter

@@ -1,5 +1,5 @@
 -- The inverses of the roots of a layer, which are negatives of its roots.
-use Rattle.std.proofs.Common.{◌≡◌, ℕ, zero, suc, ◌+◌, ◌-◌, ◌*◌, ◌/◌, ◌%◌, ◌^◌, ◌<◌, ◌≤◌, List, length, get_or, refl, sym, ap, ◌∙◌, subst, arith, ℤ, pos, neg_ℤ, ◌*ℤ◌, ⊎_elim, mod-eq_of_lt, mod-lt, div-add-mod'}
+use Rattle.std.proofs.Common.{◌≡◌, ℕ, zero, suc, ◌+◌, ◌-◌, ◌*◌, ◌/◌, ◌%◌, ◌^◌, ◌<◌, ◌≤◌, List, length, get_or, refl, sym, ap, ◌∙◌, subst, arith, pos, neg_ℤ, ◌*ℤ◌, ⊎_elim, mod-eq_of_lt, mod-lt, div-add-mod'}
 use Rattle.std.proofs.lemmas.Nat.{div-mul-add, mul-mod_first, mul-mod_second, pow-add}
 use Rattle.std.proofs.lemmas.Bool.{cases_lt}
 use Rattle.std.proofs.Math.Nat.{lt_of_mul-lt-mul_right}

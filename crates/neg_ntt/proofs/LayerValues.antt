@@ -3,7 +3,7 @@ use Rattle.std.proofs.Common.{◌≡◌, ℕ, suc, ◌+◌, ◌-◌, ◌*◌, �
 use Rattle.std.proofs.lemmas.Bool.{cases_lt}
 use Rattle.ring_law.specs.Residues.{Congruent}
 use Rattle.ring_law.specs.Transform.{bit_reversal}
-use Rattle.ring_law.proofs.RingSolver.{identity1, identity3, identity4, identity5, literal, minus, ◌⊕◌, ◌⊗◌}
+use Rattle.ring_law.proofs.RingSolver.{identity3, identity4, identity5, literal, minus, ◌⊕◌, ◌⊗◌}
 use Rattle.ring_law.proofs.Congruence.{Congruent-add, Congruent-equal, Congruent-mul, Congruent-neg, Congruent-refl, Congruent-sym, Congruent-trans}
 use Rattle.ring_law.proofs.Residues.{Congruent-from_residues}
 use Rattle.ring_law.proofs.BitReversal.{even_or_odd}

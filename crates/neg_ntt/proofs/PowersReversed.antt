@@ -12,7 +12,7 @@ use Rattle.ring_law.proofs.BitReversal.{bit_reversal_top}
 use Rattle.neg_ntt.specs.Butterflies.{EachBlock}
 use Rattle.neg_ntt.specs.Layers.{AreLayerRoots}
 use Rattle.neg_ntt.specs.Parameters.{Parameters, layer_root}
-use Rattle.neg_ntt.specs.Roots.{ArePowersReversed, HaveQuotients, factor_at, factor_of}
+use Rattle.neg_ntt.specs.Roots.{ArePowersReversed, factor_at, factor_of}
 
 -- with d more digits, which are 0
 bit_reversal_wider : (d k j : ℕ) → j < 2 ^ k → bit_reversal (d + k) j ≡ 2 ^ d * bit_reversal k j
@@ -152,11 +152,6 @@ AreLayerRoots-table t x n s table factors layer size powers are count =
     }
 
 module _ (t : Parameters) (x s : ℕ) (factors : List Factor) (roots : AreLayerRoots t x s factors) where
-  pub AreLayerRoots-quotients : HaveQuotients t.modulus factors
-  AreLayerRoots-quotients i inside =
-      let factor = roots.at i (subst (λ n. i < n) roots.len inside) in
-      ap (λ f. f.shoup) factor ∙ ap (shoup_of t.modulus) (sym (ap (λ f. f.w) factor))
-
   -- what a layer did, told by the powers that its factors are
   pub EachBlock-layer : (B : ℕ → ℕ → ℕ → ℕ → ℕ → Type 0) (half : ℕ) (old new : List ℕ) → EachBlock (λ i. B (factor_at factors i).w) (length factors) half old new
       → EachBlock (λ i. B (layer_root x t s i)) (2 ^ s) half old new

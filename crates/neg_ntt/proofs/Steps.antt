@@ -1,5 +1,5 @@
 -- The steps of a transform: the sizes of its layers, and its rows from the first layer to the last.
-use Rattle.std.proofs.Common.{◌≡◌, ℕ, zero, suc, ◌+◌, ◌-◌, ◌*◌, ◌/◌, ◌%◌, ◌^◌, ◌<◌, ◌≤◌, refl, sym, ap, ap₂, ◌∙◌, subst, arith, ℤ, pos, neg_ℤ, ◌*ℤ◌, List, get_or, length, take, drop, length-take, length-drop, ⊎_elim, ◌⊎◌, inl, inr, pow_pos, pow-add, mul-le-mul_right, mul-div_cancel, mod-eq_of_lt, div-add-mod'}
+use Rattle.std.proofs.Common.{◌≡◌, ℕ, zero, suc, ◌+◌, ◌-◌, ◌*◌, ◌/◌, ◌%◌, ◌^◌, ◌<◌, ◌≤◌, refl, sym, ap, ap₂, ◌∙◌, subst, arith, ℤ, pos, neg_ℤ, ◌*ℤ◌, List, get_or, length, take, drop, length-take, length-drop, ⊎_elim, ◌⊎◌, inl, inr, pow_pos, pow-add, mul-le-mul_right, mod-eq_of_lt, div-add-mod'}
 use Rattle.std.proofs.lemmas.Bool.{cases_lt}
 use Rattle.std.proofs.lemmas.Int.{ints}
 use Rattle.std.proofs.lemmas.Nat.{mul-mod_first, mul-pow, pow_below, pow-mod}
@@ -140,19 +140,6 @@ two_quarters k s quarter below is_quarter = ap (λ q. 2 * q) is_quarter ∙ sym 
   where
     one : (k s : ℕ) → k - (s + 1) ≡ k - suc s
     one k s = omega arith
-
--- and there are twice as many of these
-pub twice_as_many : (s inner outer : ℕ) → outer ≡ 2 ^ s → inner ≡ 2 ^ (s + 1) → inner ≡ 2 * outer
-twice_as_many s inner outer is_outer is_inner = is_inner ∙ double s ∙ ap (λ p. 2 * p) (sym is_outer)
-  where
-    double : (s : ℕ) → 2 ^ (s + 1) ≡ 2 * 2 ^ s
-    double s = ap (λ e. 2 ^ e) (next s) ∙ twice s
-      where
-        next : (s : ℕ) → s + 1 ≡ suc s
-        next s = omega arith
-
-        twice : (s : ℕ) → 2 ^ suc s ≡ 2 * 2 ^ s
-        twice s = omega arith
 
 -- ---- roots
 -- what is q - 1 modulo q is congruent to -1

@@ -1,7 +1,7 @@
 -- Remainders, by the multiples of the modulus that two numbers differ by.
 use Rattle.std.proofs.Common.{◌≡◌, ℕ, ◌+◌, ◌-◌, ◌*◌, ◌/◌, ◌%◌, ◌<◌, ◌≤◌, sym, ap, ◌∙◌, arith}
 use Rattle.std.proofs.lemmas.Nat.{div-mul-add, mod-mul-add}
-use Rattle.std.proofs.Math.Nat.{add-mul-mod_self_right, mod-eq_of_lt, mod-eq-sub-mod}
+use Rattle.std.proofs.Math.Nat.{add-mul-mod_self_right, mod-eq_of_lt}
 
 -- numbers that differ by multiples of q have one remainder
 pub same_remainder : (q x y k l : ℕ) → x + k * q ≡ y + l * q → x % q ≡ y % q
@@ -41,13 +41,6 @@ pub quotient_past : (a k q : ℕ) → k * q ≤ a → q ≤ a - k * q → a < (k
 quotient_past a k q le ge lt =
     let split : a ≡ (k + 1) * q + (a - k * q - q) = omega arith in
     sym (ap (λ (x : ℕ). x / q) split ∙ div-mul-add (k + 1) q (a - k * q - q) (omega arith))
-
--- the remainder of a number from q to below 2 * q that stands for z
-pub remainder_less : (q y z : ℕ) → y % q ≡ z % q → y < 2 * q → q ≤ y → y - q ≡ z % q
-remainder_less q y z e lt ge =
-    let less : y % q ≡ (y - q) % q = mod-eq-sub-mod ge in
-    let small : (y - q) % q ≡ y - q = mod-eq_of_lt (omega arith) in
-    omega arith
 
 -- a difference of words that wrapped is right where it is a word
 pub unwrapped : (W x y : ℕ) → 0 < W → y ≤ x → x - y < W → (x % W + (W - y % W)) % W ≡ x - y

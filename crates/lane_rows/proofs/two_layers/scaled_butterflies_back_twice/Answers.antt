@@ -1,4 +1,4 @@
-use Rattle.std.proofs.Common.{◌≡◌, ◌+◌, ◌*◌, ◌<◌, length, arith}
+use Rattle.std.proofs.Common.{◌+◌, ◌*◌, arith}
 use Rattle.lane_rows.proofs.Fours.{FoursDone-at, FoursDone-more, RowBelow-fours}
 use Rattle.lane_rows.proofs.two_layers.scaled_butterflies_back_twice.Goals as goal
 

@@ -1,4 +1,4 @@
-use Rattle.std.proofs.Common.{ℕ, ◌*◌, ◌<◌, ◌≤◌, arith}
+use Rattle.std.proofs.Common.{ℕ, ◌*◌, ◌<◌, arith}
 use Rattle.lane_rows.specs.Butterflies.{IsButterflyBack, IsScaledButterflyBack, TwoLayersBack}
 use Rattle.lane_rows.proofs.Fours.{FourAt-set, FourBelow-set, four_set_below, four_set_others}
 use Rattle.lane_rows.proofs.two_layers.scaled_step_back.Goals as goal

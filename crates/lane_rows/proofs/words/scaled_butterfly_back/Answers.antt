@@ -1,4 +1,4 @@
-use Rattle.std.proofs.Common.{ℕ, ◌≡◌, ◌+◌, ◌-◌, ◌*◌, ◌%◌, ◌∙◌, ap}
+use Rattle.std.proofs.Common.{ℕ, ◌+◌, ◌-◌, ◌*◌, ◌%◌, ◌∙◌, ap}
 use Rattle.std.proofs.Math.Nat.{mod-mod}
 use Rattle.lane_rows.proofs.ButterflyLemmas.{IsButterflyBack-from_lazy}
 use Rattle.lane_rows.proofs.words.scaled_butterfly_back.Goals as goal

@@ -1,4 +1,4 @@
-use Rattle.std.proofs.Common.{◌/◌, ◌<◌, ◌^◌, ap, arith, ℕ, sym, subst}
+use Rattle.std.proofs.Common.{◌/◌, ◌<◌, ◌^◌, arith, ℕ, sym, subst}
 use Rattle.word_mod.proofs.Shift.{IsShift-of, power_fits, short_ratio_fits}
 use Rattle.word_mod.proofs.Modulus.new.Goals as goal
 

@@ -1,4 +1,4 @@
-use Rattle.std.proofs.Common.{◌≡◌, ℕ, suc, ◌+◌, ◌-◌, ◌*◌, ◌%◌, ◌^◌, ◌<◌, length, arith, sym, subst, ap, ◌∙◌, get_or}
+use Rattle.std.proofs.Common.{◌≡◌, ℕ, suc, ◌+◌, ◌-◌, ◌*◌, ◌%◌, ◌^◌, ◌<◌, length, arith, sym, subst, ap}
 use Rattle.neg_ntt.specs.Tables.{AreTables}
 use Rattle.neg_ntt.proofs.LayerValues.{AreBlocks}
 use Rattle.neg_ntt.proofs.Steps.{AreBlocks-last, AreBlocks-layer_back, AreParameters-minus_one, IsTransform-from_unique, log_from_two, residue-joined}
