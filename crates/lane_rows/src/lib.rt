@@ -1,7 +1,8 @@
 //! Arithmetic on rows of residues, for the number-theoretic transform and what stands on it.
 //!
-//! A row is a slice of words of any length, each a residue modulo one modulus q. Whole chunks of a row go
-//! through vector lanes, and the words past the last whole chunk through the same arithmetic word by word.
+//! A row is a slice of words of any length, each a residue modulo one modulus q. Sums, differences, negatives and
+//! residues of whole chunks of a row go through vector lanes, and the words past the last whole chunk through the
+//! same arithmetic word by word; products and butterflies go word by word.
 //! All moduli are below 2^61, so that words below 4q can be added.
 #![tactic(auto)]
 
