@@ -20,6 +20,6 @@ pub use two_layers::{
     Root, butterflies_back_twice, butterflies_twice, scaled_butterflies_back_twice,
 };
 
-/// How many places a loop of butterflies goes over at once: the compiler writes an inner loop of a fixed length out, word by word,
-/// and doesn't put its words into lanes, which have no product of two words.
+/// How many places a loop of butterflies goes over at once: the compiler writes an inner loop of a fixed length out, word
+/// by word, and doesn't put its words into lanes, which have no product of two words.
 const UNROLLED: usize = 4;

@@ -38,7 +38,8 @@ fn step(q: u64, w: u64, shoup: u64, i: usize, lo: &mut [u64], hi: &mut [u64])
     requires lo_inside { i < length lo.old }
     requires hi_inside { i < length hi.old }
     requires below { slice_index lo.old i < 4 * q }
-    ensures pair { IsButterfly q w (slice_index lo.old i) (slice_index hi.old i) (slice_index lo.new i) (slice_index hi.new i) }
+    ensures pair { IsButterfly q w (slice_index lo.old i) (slice_index hi.old i)
+        (slice_index lo.new i) (slice_index hi.new i) }
     ensures lo_below { slice_index lo.new i < 4 * q }
     ensures hi_below { slice_index hi.new i < 4 * q }
     ensures lo_others { (j : ℕ) → j ≢ i → slice_index lo.new j ≡ slice_index lo.old j }
@@ -82,7 +83,8 @@ fn step_back(q: u64, w: u64, shoup: u64, i: usize, lo: &mut [u64], hi: &mut [u64
     requires hi_inside { i < length hi.old }
     requires lo_below { slice_index lo.old i < 2 * q }
     requires hi_below { slice_index hi.old i < 2 * q }
-    ensures pair { IsButterflyBack q w (slice_index lo.old i) (slice_index hi.old i) (slice_index lo.new i) (slice_index hi.new i) }
+    ensures pair { IsButterflyBack q w (slice_index lo.old i) (slice_index hi.old i)
+        (slice_index lo.new i) (slice_index hi.new i) }
     ensures lo_below { slice_index lo.new i < 2 * q }
     ensures hi_below { slice_index hi.new i < 2 * q }
     ensures lo_others { (j : ℕ) → j ≢ i → slice_index lo.new j ≡ slice_index lo.old j }
@@ -128,7 +130,8 @@ fn scaled_step_back(q: u64, scale: Root, root: Root, i: usize, lo: &mut [u64], h
     requires hi_inside { i < length hi.old }
     requires lo_below { slice_index lo.old i < 2 * q }
     requires hi_below { slice_index hi.old i < 2 * q }
-    ensures pair { IsScaledButterflyBack q scale.w root.w (slice_index lo.old i) (slice_index hi.old i) (slice_index lo.new i) (slice_index hi.new i) }
+    ensures pair { IsScaledButterflyBack q scale.w root.w (slice_index lo.old i) (slice_index hi.old i)
+        (slice_index lo.new i) (slice_index hi.new i) }
     ensures lo_below { slice_index lo.new i < q }
     ensures hi_below { slice_index hi.new i < q }
     ensures lo_others { (j : ℕ) → j ≢ i → slice_index lo.new j ≡ slice_index lo.old j }

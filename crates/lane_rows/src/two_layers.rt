@@ -1,7 +1,8 @@
 //! Two layers of the transform at once, on the quarters of a block, so that each word is loaded and stored once.
 
 ghost use Rattle.std.specs.Prelude.{◌≡◌, ◌≢◌, ℕ, ◌+◌, ◌*◌, ◌^◌, ◌<◌, length, slice_index};
-ghost use Rattle.lane_rows.specs.Butterflies.{EachFour, FourAt, FourBelow, HasQuotient, IsButterfly, IsButterflyBack, IsScaledButterflyBack, TwoLayers, TwoLayersBack};
+ghost use Rattle.lane_rows.specs.Butterflies.{EachFour, FourAt, FourBelow, HasQuotient, IsButterfly, IsButterflyBack, IsScaledButterflyBack};
+ghost use Rattle.lane_rows.specs.Butterflies.{TwoLayers, TwoLayersBack};
 ghost use Rattle.lane_rows.specs.Rows.{RowBelow};
 
 use crate::UNROLLED;
@@ -31,7 +32,8 @@ pub fn butterflies_twice(
     requires second_quotient { HasQuotient q second }
     requires quarters { length block.old ≡ 4 * quarter }
     requires below { RowBelow (4 * q) block.old }
-    ensures layers { EachFour (TwoLayers (IsButterfly q outer.w) (IsButterfly q first.w) (IsButterfly q second.w)) quarter block.old block.new }
+    ensures layers { EachFour (TwoLayers (IsButterfly q outer.w) (IsButterfly q first.w) (IsButterfly q second.w))
+        quarter block.old block.new }
     ensures below { RowBelow (4 * q) block.new }
 {
     let chunks = quarter / UNROLLED;
@@ -55,7 +57,8 @@ fn step(q: u64, outer: Root, first: Root, second: Root, quarter: usize, i: usize
     requires quarters { length block.old ≡ 4 * quarter }
     requires inside { i < quarter }
     requires below { RowBelow (4 * q) block.old }
-    ensures layers { FourAt (TwoLayers (IsButterfly q outer.w) (IsButterfly q first.w) (IsButterfly q second.w)) quarter i block.old block.new }
+    ensures layers { FourAt (TwoLayers (IsButterfly q outer.w) (IsButterfly q first.w) (IsButterfly q second.w))
+        quarter i block.old block.new }
     ensures below { RowBelow (4 * q) block.new }
     ensures others { (j : ℕ) → j ≢ i → j ≢ quarter + i → j ≢ 2 * quarter + i → j ≢ 3 * quarter + i
         → slice_index block.new j ≡ slice_index block.old j }
@@ -93,7 +96,8 @@ pub fn butterflies_back_twice(
     requires second_quotient { HasQuotient q second }
     requires quarters { length block.old ≡ 4 * quarter }
     requires below { RowBelow (2 * q) block.old }
-    ensures layers { EachFour (TwoLayersBack (IsButterflyBack q outer.w) (IsButterflyBack q first.w) (IsButterflyBack q second.w)) quarter block.old block.new }
+    ensures layers { EachFour (TwoLayersBack (IsButterflyBack q outer.w) (IsButterflyBack q first.w)
+        (IsButterflyBack q second.w)) quarter block.old block.new }
     ensures below { RowBelow (2 * q) block.new }
 {
     let chunks = quarter / UNROLLED;
@@ -125,7 +129,8 @@ fn step_back(
     requires quarters { length block.old ≡ 4 * quarter }
     requires inside { i < quarter }
     requires below { RowBelow (2 * q) block.old }
-    ensures layers { FourAt (TwoLayersBack (IsButterflyBack q outer.w) (IsButterflyBack q first.w) (IsButterflyBack q second.w)) quarter i block.old block.new }
+    ensures layers { FourAt (TwoLayersBack (IsButterflyBack q outer.w) (IsButterflyBack q first.w)
+        (IsButterflyBack q second.w)) quarter i block.old block.new }
     ensures below { RowBelow (2 * q) block.new }
     ensures others { (j : ℕ) → j ≢ i → j ≢ quarter + i → j ≢ 2 * quarter + i → j ≢ 3 * quarter + i
         → slice_index block.new j ≡ slice_index block.old j }
@@ -165,7 +170,8 @@ pub fn scaled_butterflies_back_twice(
     requires second_quotient { HasQuotient q second }
     requires quarters { length block.old ≡ 4 * quarter }
     requires below { RowBelow (2 * q) block.old }
-    ensures layers { EachFour (TwoLayersBack (IsScaledButterflyBack q scale.w outer.w) (IsButterflyBack q first.w) (IsButterflyBack q second.w)) quarter block.old block.new }
+    ensures layers { EachFour (TwoLayersBack (IsScaledButterflyBack q scale.w outer.w) (IsButterflyBack q first.w)
+        (IsButterflyBack q second.w)) quarter block.old block.new }
     ensures below { RowBelow q block.new }
 {
     let chunks = quarter / UNROLLED;
@@ -208,7 +214,8 @@ fn scaled_step_back(
     requires quarters { length block.old ≡ 4 * quarter }
     requires inside { i < quarter }
     requires below { RowBelow (2 * q) block.old }
-    ensures layers { FourAt (TwoLayersBack (IsScaledButterflyBack q scale.w outer.w) (IsButterflyBack q first.w) (IsButterflyBack q second.w)) quarter i block.old block.new }
+    ensures layers { FourAt (TwoLayersBack (IsScaledButterflyBack q scale.w outer.w) (IsButterflyBack q first.w)
+        (IsButterflyBack q second.w)) quarter i block.old block.new }
     ensures reduced { FourBelow q quarter i block.new }
     ensures below { RowBelow (2 * q) block.new }
     ensures others { (j : ℕ) → j ≢ i → j ≢ quarter + i → j ≢ 2 * quarter + i → j ≢ 3 * quarter + i

@@ -147,7 +147,8 @@ fn forward_blocks(q: u64, outer: &[Factor], inner: &[Factor], quarter: usize, ro
 }
 
 /// Two layers at once: joins each four blocks of `quarter` words, in words below 2q, to two by the inverses of the roots `inner`,
-/// and these to one by those of `outer`. The inverses of a layer's roots are their negatives, from the last one to the first. Where a quarter is short the compiler makes code for its length, without a loop.
+/// and these to one by those of `outer`. The inverses of a layer's roots are their negatives, from the last one to the first.
+/// Where a quarter is short the compiler makes code for its length, without a loop.
 pub fn inverse_two_layers(
     q: u64,
     outer: &[Factor],
@@ -182,7 +183,8 @@ fn inverse_blocks(q: u64, outer: &[Factor], inner: &[Factor], quarter: usize, ro
     requires blocks { length row.old ≡ length outer.now * (4 * quarter) }
     requires below { RowBelow (2 * q) row.old }
     ensures fours { EachPart (λ i. EachFour (TwoLayersBack (IsButterflyBack q (negative_from_last q outer.now i))
-        (IsButterflyBack q (negative_from_last q inner.now (2 * i))) (IsButterflyBack q (negative_from_last q inner.now (2 * i + 1)))) quarter)
+        (IsButterflyBack q (negative_from_last q inner.now (2 * i)))
+        (IsButterflyBack q (negative_from_last q inner.now (2 * i + 1)))) quarter)
         (length outer.now) (4 * quarter) row.old row.new }
     ensures below { RowBelow (2 * q) row.new }
 {
