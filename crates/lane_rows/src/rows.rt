@@ -8,7 +8,7 @@ ghost use Rattle.std.specs.List.{SameFrom};
 ghost use Rattle.lane_rows.specs.Rows.{RowBelow};
 
 use crate::lanes::{LANES, load};
-use crate::{lanes, words};
+use crate::{UNROLLED, lanes, words};
 use std::simd::prelude::*;
 
 /// Writes the residues of `a_i + b_i` into `out`.
@@ -121,7 +121,14 @@ pub fn scale_row(q: u64, w: u64, shoup: u64, a: &[u64], out: &mut [u64])
     ensures residues { (i : ℕ) → i < length out.old → slice_index out.new i ≡ (w * slice_index a.now i) % q }
     ensures below { RowBelow q out.new }
 {
-    for i in 0..out.len() {
+    let chunks = out.len() / UNROLLED;
+    'chunks: for k in 0..chunks {
+        'places: for r in 0..UNROLLED {
+            let i = UNROLLED * k + r;
+            out[i] = words::scale(q, w, shoup, a[i]);
+        }
+    }
+    'rest: for i in UNROLLED * chunks..out.len() {
         out[i] = words::scale(q, w, shoup, a[i]);
     }
 }
@@ -133,7 +140,14 @@ pub fn scale_row_in_place(q: u64, w: u64, shoup: u64, a: &mut [u64])
     ensures residues { (i : ℕ) → i < length a.old → slice_index a.new i ≡ (w * slice_index a.old i) % q }
     ensures below { RowBelow q a.new }
 {
-    for i in 0..a.len() {
+    let chunks = a.len() / UNROLLED;
+    'chunks: for k in 0..chunks {
+        'places: for r in 0..UNROLLED {
+            let i = UNROLLED * k + r;
+            a[i] = words::scale(q, w, shoup, a[i]);
+        }
+    }
+    'rest: for i in UNROLLED * chunks..a.len() {
         a[i] = words::scale(q, w, shoup, a[i]);
     }
 }
