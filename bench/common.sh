@@ -119,9 +119,10 @@ agree() {
     [ "$proved" = "$plain" ] || { echo "$1: the two programs disagree" >&2; exit 1; }
 }
 
-# print_ratio LABEL CALL: prints the best time of the proved program, that of the other, and their ratio.
+# print_ratio LABEL CALL [OTHER]: prints the best time of a call of the proved program, that of the other program's call OTHER,
+# or of the same call, and their ratio.
 print_ratio() {
-    awk -v label="$1" -v proved="$(best proved "$2")" -v other="$(best other "$2")" 'BEGIN {
+    awk -v label="$1" -v proved="$(best proved "$2")" -v other="$(best other "${3:-$2}")" 'BEGIN {
         printf "%-18s %8.1f us; the other program %8.1f us, ratio %.2f\n", label, proved / 1000, other / 1000, proved / other
     }'
 }

@@ -1,0 +1,9 @@
+use Rattle.std.proofs.Common.{◌≡◌, length}
+use Rattle.ring_law.specs.Rows.{IsReduced}
+use Rattle.bfv_tensor.proofs.tests.subtract.Given as goal
+
+abbrev pub invariant-loop-k : goal.invariant-loop-k
+invariant-loop-k g l = record {
+  words : length l.out ≡ g.row.N;
+  reduced : IsReduced l.k l.m l.out;
+}
