@@ -1,2 +1,15 @@
 pub mod DigitRows
+pub mod DigitSums
 pub mod HeldKeys
+pub mod KeyLevels
+pub mod TurnedWords
+pub mod SumRows
+pub mod Entries
+pub mod DigitStep
+pub mod JoinedParts
+pub mod MadeDigits
+pub mod DroppedRows
+pub mod OwnWords
+pub mod SwitchedPairs
+pub mod ZeroSums
+pub mod ScratchRows

@@ -1,2 +1,4 @@
 pub mod Memory
 pub mod Providers
+pub mod Sums
+pub mod Switching

@@ -1,0 +1,2 @@
+pub mod TurnedRows
+pub mod StepElements
