@@ -4,7 +4,7 @@ use Rattle.std.specs.Int.RustNames.{count_ones}
 use Rattle.std.proofs.lemmas.Int.{ints}
 use Rattle.std.proofs.lemmas.Nat.{ones-le, ones_cat}
 use Rattle.ring_law.specs.Polynomials.{AllWithin}
-use Rattle.bfv_model.specs.Drawn.{drawn_error, drawn_secret, drawn_ternary, error_sample, greatest_error, greatest_ternary, ternary_sample, uniform_sample}
+use Rattle.bfv_model.specs.Drawn.{drawn_error, drawn_ternary, error_sample, greatest_error, greatest_ternary, ternary_sample, uniform_sample}
 use Rattle.bfv_model.specs.Holds.{ternary_coefficient}
 
 -- no error is greater than 21 bits allow
@@ -28,9 +28,6 @@ ternary_coefficient_within (suc (suc (suc word))) below = absurd (omega arith)
 
 pub drawn_ternary_within : (n : ℕ) (words : ℕ → ℕ) → AllWithin n greatest_ternary (drawn_ternary words)
 drawn_ternary_within n words k below = ternary_coefficient_within (words k % 3) (mod-lt (words k) (lit< tt))
-
-pub drawn_secret_within : (n : ℕ) (words : ℕ → ℕ) → AllWithin n greatest_ternary (λ k. ternary_coefficient (drawn_secret words k))
-drawn_secret_within n words k below = ternary_coefficient_within (words (2 + k) % 3) (mod-lt (words (2 + k)) (lit< tt))
 
 -- ---- worked out by hand
 count_ones-zero : count_ones 0 ≡ 0

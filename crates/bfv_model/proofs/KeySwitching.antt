@@ -7,7 +7,6 @@ use Rattle.std.proofs.lemmas.Nat.{le-div}
 use Rattle.ring_law.specs.Moduli.{AllAboveOne, Selects, product}
 use Rattle.ring_law.specs.Polynomials.{AllWithin, CongruentPolynomials, ring_constant, ring_product, ring_sum}
 use Rattle.ring_law.specs.Residues.{Congruent, centred_residue}
-use Rattle.ring_law.specs.Rows.{WordsRepresent}
 use Rattle.ring_law.specs.Sums.{sum_below}
 use Rattle.ring_law.proofs.ChineseRemainder.{chinese_remainder_unique, selected_sum, selector}
 use Rattle.ring_law.proofs.Choice.{choose}
@@ -281,8 +280,3 @@ IsSwitchKeyOf-digit n P E i qs k0 k1 source s e cop big some small rows last g s
     all : Congruent (P * product qs) d (e k)
     all = chinese_remainder_unique (P ∷ qs) cop d (e k)
         (All-cons (λ q. Congruent q d (e k)) P qs at_P (All-from_get_or (λ q. Congruent q d (e k)) qs 0 at_j))
-
--- the digits of c are the words of its rows
-pub gadget_digit_word : (n : ℕ) (qs : List ℕ) (row : ℕ → ℕ → ℕ) (c : ℕ → ℤ) → WordsRepresent n qs row c → (i k : ℕ) → i < length qs → k < n
-    → gadget_digit qs c i k ≡ pos (row i k)
-gadget_digit_word n qs row c h i k b l = ap pos (sym (h i k b l))

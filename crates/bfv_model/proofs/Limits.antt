@@ -1,5 +1,5 @@
 -- The limits of the sets.
-use Rattle.std.proofs.Common.{◌≡◌, ℕ, ◌-◌, ◌*◌, ◌/◌, ◌^◌, ◌<◌, ◌≤◌, List, [], ◌∷◌, refl, arith, lit<}
+use Rattle.std.proofs.Common.{ℕ, ◌-◌, ◌*◌, ◌/◌, ◌^◌, ◌<◌, ◌≤◌, List, [], ◌∷◌, arith, lit<}
 use Rattle.std.proofs.Math.Nat.{mul-le-mul_left}
 use Rattle.std.specs.Prelude.{fold}
 use Rattle.std.proofs.lemmas.Nat.{pow_pos}
@@ -7,21 +7,8 @@ use Rattle.set_table.specs.declared.SetName.{SetName}
 use Rattle.set_table.specs.declared.SetName.TheVariants.{One16, Toy16, S4096, S8192, S16384}
 use Rattle.set_table.specs.Sets.{data_of}
 use Rattle.ring_law.specs.Moduli.{product}
-use Rattle.bound_num.specs.Bound.{bound_value, digits_within, bit_length, spacing, down}
+use Rattle.bound_num.specs.Bound.{digits_within, bit_length, spacing, down}
 use Rattle.bfv_model.specs.Limit.{limit}
-
--- the limits of three sets, as they are printed
-pub limit-one16 : limit (data_of One16) ≡ bound_value 4294967295 21
-unfolding limit down spacing bit_length digits_within bound_value
-limit-one16 = refl
-
-pub limit-toy16 : limit (data_of Toy16) ≡ bound_value 4294967104 52
-unfolding limit down spacing bit_length digits_within bound_value
-limit-toy16 = refl
-
-pub limit-s4096 : limit (data_of S4096) ≡ bound_value 4294947328 38
-unfolding limit down spacing bit_length digits_within bound_value
-limit-s4096 = refl
 
 -- no limit has more than 400 binary digits
 pub limit_lt : (set : SetName) → limit (data_of set) < 2 ^ 400

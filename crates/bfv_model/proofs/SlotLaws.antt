@@ -1,12 +1,11 @@
 -- The laws of the slots, as numbers below t.
-use Rattle.std.proofs.Common.{ap, arith, mod-eq_of_lt, mod-lt, neg_ℤ, pos, pow-add, pow_pos, refl, subst, suc, sym, ℕ, ℤ, ◌%◌, ◌*ℤ◌, ◌*◌, ◌+ℤ◌, ◌+◌, ◌-◌, ◌<◌, ◌^◌, ◌∙◌, ◌≡◌, ◌≤◌}
-use Rattle.std.proofs.lemmas.Int.{ints}
-use Rattle.ring_law.specs.Polynomials.{CongruentPolynomials, ring_negative, ring_product, ring_sum, ring_turn}
+use Rattle.std.proofs.Common.{ap, arith, mod-eq_of_lt, mod-lt, neg_ℤ, pos, pow-add, pow_pos, refl, subst, suc, sym, ℕ, ℤ, ◌%◌, ◌*◌, ◌+◌, ◌-◌, ◌<◌, ◌^◌, ◌∙◌, ◌≡◌}
+use Rattle.ring_law.specs.Polynomials.{CongruentPolynomials, ring_product, ring_sum, ring_turn}
 use Rattle.ring_law.specs.Residues.{Congruent, HasInverse, residue}
 use Rattle.ring_law.specs.Rows.{natural_polynomial}
 use Rattle.ring_law.specs.Transform.{evaluation}
 use Rattle.ring_law.proofs.Congruence.{Congruent-add, Congruent-equal, Congruent-mul, Congruent-neg, Congruent-sym, Congruent-trans}
-use Rattle.ring_law.proofs.Evaluation.{evaluation_add, evaluation_congruent, evaluation_neg}
+use Rattle.ring_law.proofs.Evaluation.{evaluation_add, evaluation_congruent}
 use Rattle.ring_law.proofs.Inverses.{HasInverse-odd, HasInverse-swap}
 use Rattle.ring_law.proofs.PowersOfThree.{power_of_three_round}
 use Rattle.ring_law.proofs.Residues.{Congruent-mod, Congruent-residue, residue_equal, residue_lt, residue_unique}
@@ -30,10 +29,6 @@ module _ (t x u h : ℕ) (odd : t ≡ 2 * h + 1) (minus_one : Congruent t (pos (
   unfolding slot
   slot_from m i r l c = sym (residue_unique t (evaluation (2 ^ suc (suc u)) x (slot_power (2 ^ suc (suc u)) i) m) r l c)
 
-  pub slot_lt : (m : ℕ → ℤ) (i : ℕ) → slot (2 ^ suc (suc u)) t x m i < t
-  unfolding slot
-  slot_lt m i = residue_lt t (evaluation (2 ^ suc (suc u)) x (slot_power (2 ^ suc (suc u)) i) m) some
-
   -- the slots count modulo t alone
   pub slot_congruent : (a b : ℕ → ℤ) (i : ℕ) → CongruentPolynomials t (2 ^ suc (suc u)) a b
       → slot (2 ^ suc (suc u)) t x a i ≡ slot (2 ^ suc (suc u)) t x b i
@@ -42,7 +37,7 @@ module _ (t x u h : ℕ) (odd : t ≡ 2 * h + 1) (minus_one : Congruent t (pos (
       (evaluation (2 ^ suc (suc u)) x (slot_power (2 ^ suc (suc u)) i) b) some
       (evaluation_congruent t (2 ^ suc (suc u)) x (slot_power (2 ^ suc (suc u)) i) a b e.at)
 
-  -- the slots of a sum, of a negative and of a product
+  -- the slots of a sum and of a product
   pub slot-ring_sum : (a b : ℕ → ℤ) (i : ℕ)
       → slot (2 ^ suc (suc u)) t x (ring_sum a b) i ≡ (slot (2 ^ suc (suc u)) t x a i + slot (2 ^ suc (suc u)) t x b i) % t
   slot-ring_sum a b i = slot_from (ring_sum a b) i ((slot (2 ^ suc (suc u)) t x a i + slot (2 ^ suc (suc u)) t x b i) % t)
@@ -50,20 +45,6 @@ module _ (t x u h : ℕ) (odd : t ≡ 2 * h + 1) (minus_one : Congruent t (pos (
       (Congruent-trans t (Congruent-mod t (slot (2 ^ suc (suc u)) t x a i + slot (2 ^ suc (suc u)) t x b i) some)
       (Congruent-trans t (Congruent-add t (slot_is a i) (slot_is b i))
       (Congruent-equal t (sym (evaluation_add (2 ^ suc (suc u)) x (slot_power (2 ^ suc (suc u)) i) a b)))))
-
-  pub slot-ring_negative : (a : ℕ → ℤ) (i : ℕ) → slot (2 ^ suc (suc u)) t x (ring_negative a) i ≡ (t - slot (2 ^ suc (suc u)) t x a i) % t
-  slot-ring_negative a i = slot_from (ring_negative a) i ((t - slot (2 ^ suc (suc u)) t x a i) % t)
-      (mod-lt (t - slot (2 ^ suc (suc u)) t x a i) some)
-      (Congruent-trans t (Congruent-mod t (t - slot (2 ^ suc (suc u)) t x a i) some)
-      (Congruent-trans t (turn (slot (2 ^ suc (suc u)) t x a i) (slot_lt a i))
-      (Congruent-trans t (Congruent-neg t (slot_is a i))
-      (Congruent-equal t (sym (evaluation_neg (2 ^ suc (suc u)) x (slot_power (2 ^ suc (suc u)) i) a))))))
-    where
-      turn : (s : ℕ) → s < t → Congruent t (pos (t - s)) (neg_ℤ (pos s))
-      turn s l = record { quotient = pos 1; equation = split s t (omega arith) }
-        where
-          split : (s t : ℕ) → s ≤ t → pos (t - s) ≡ neg_ℤ (pos s) +ℤ pos 1 *ℤ pos t
-          split s t l = omega (arith, ints)
 
   pub slot-ring_product : (a b : ℕ → ℤ) (i : ℕ) → i < 2 ^ suc (suc u)
       → slot (2 ^ suc (suc u)) t x (ring_product (2 ^ suc (suc u)) a b) i ≡

@@ -4,7 +4,7 @@ use Rattle.set_table.specs.Roots.{plain_root_of}
 use Rattle.set_table.specs.Sets.{degree_of, plain_of}
 use Rattle.set_table.specs.declared.SetName.{SetName}
 use Rattle.set_table.specs.declared.SetName.TheVariants.{One16, S16384, S4096, S8192, Toy16}
-use Rattle.ring_law.specs.Polynomials.{CongruentPolynomials, ring_negative, ring_product, ring_sum, ring_turn}
+use Rattle.ring_law.specs.Polynomials.{CongruentPolynomials, ring_product, ring_sum, ring_turn}
 use Rattle.ring_law.specs.Residues.{Congruent}
 use Rattle.ring_law.specs.Rows.{natural_polynomial}
 use Rattle.ring_law.proofs.Congruence.{Congruent-equal, Congruent-sym, Congruent-trans}
@@ -13,7 +13,7 @@ use Rattle.ring_law.proofs.Values.{get_or-values_below, length-values_below, val
 use Rattle.ring_law.specs.Lists.{exchanged, turned_left}
 use Rattle.bfv_model.specs.Slots.{slot, slots, slots_of}
 use Rattle.bfv_model.proofs.ProductIdentity.{values}
-use Rattle.bfv_model.proofs.SlotLaws.{plaintext_once, plaintext_with, plaintext_with_lt, slot-plaintext_with, slot-ring_negative, slot-ring_product, slot-ring_sum, slot_congruent}
+use Rattle.bfv_model.proofs.SlotLaws.{plaintext_once, plaintext_with, plaintext_with_lt, slot-plaintext_with, slot-ring_product, slot-ring_sum, slot_congruent}
 use Rattle.bfv_model.proofs.SlotLists.{slots-swap, slots-turn}
 use Rattle.bfv_model.proofs.SlotPowers.{half_degree, modulus_less_one}
 
@@ -77,22 +77,6 @@ slots-ring_sum set a b i =
     ∙ slot-ring_sum t x log half odd minus_one a b i
     ∙ ap₂ (λ v w. (v + w) % t) (sym (get_or-values_below (2 ^ suc (suc log)) (slot (2 ^ suc (suc log)) t x a) i 0 below))
     (sym (get_or-values_below (2 ^ suc (suc log)) (slot (2 ^ suc (suc log)) t x b) i 0 below)))
-  where
-    t : ℕ
-    t = plain_of set
-
-    x : ℕ
-    x = plain_root_of set
-
-pub slots-ring_negative : (set : SetName) (a : ℕ → ℤ) (i : ℕ) → i < degree_of set
-    → slice_index (slots_of set (ring_negative a)) i ≡ (plain_of set - slice_index (slots_of set a) i) % plain_of set
-unfolding slots
-slots-ring_negative set a i =
-    at_degree set (λ (n : ℕ). i < n → slice_index (slots n t x (ring_negative a)) i ≡ (t - slice_index (slots n t x a) i) % t)
-    (λ log half odd minus_one below.
-    get_or-values_below (2 ^ suc (suc log)) (slot (2 ^ suc (suc log)) t x (ring_negative a)) i 0 below
-    ∙ slot-ring_negative t x log half odd minus_one a i
-    ∙ ap (λ v. (t - v) % t) (sym (get_or-values_below (2 ^ suc (suc log)) (slot (2 ^ suc (suc log)) t x a) i 0 below)))
   where
     t : ℕ
     t = plain_of set
