@@ -108,6 +108,9 @@ least_of() {
         | awk -F '[":]+' '{ printf "%s %.0f\n", $2, 1000 * $3 }'
 }
 
+# least_in YARDSTICK SET OPERATION..: the same at 0.2 seconds each, as lines `OPERATION_SET NANOSECONDS`.
+least_in() { least_of "$1" "$2" 0.2 "${@:3}" | sed "s/ /_$2 /"; }
+
 # best FOLDER CALL: the least nanoseconds of the lines `CALL NANOSECONDS ..` of all rounds.
 best() { sed -n "s/^$2 \([0-9]*\).*/\1/p" "$work/$1"/*.txt | sort -n | head -1; }
 
@@ -133,7 +136,7 @@ compare_sets() {
     local round set operation
     for round in $(seq "$2"); do
         for set in s8192 s16384; do
-            least_of "$1" "$set" 0.2 "${@:3}" | sed "s/ /_$set /"
+            least_in "$1" "$set" "${@:3}"
         done > "$work/other/$round.txt"
         "$built" > "$work/proved/$round.txt"
     done
