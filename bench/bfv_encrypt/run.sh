@@ -21,6 +21,7 @@ mod rows;
 
 ghost use Rattle.std.specs.Prelude.{◌≡◌, ◌≤◌, length, IfOk};
 ghost use Rattle.set_table.specs.Sets.{data_of, degree_of};
+ghost use Rattle.bfv_params.specs.Ciphers.{IsCipherOf};
 ghost use Rattle.bfv_params.specs.Contexts.{scratch_rows_in};
 
 use crate::rows::{fill, report};
@@ -52,8 +53,7 @@ fn filled_key<const N: usize>(alloc: Global, ctx: &Context<N>) -> Result<Public<
 }
 
 fn new_cipher<const N: usize>(alloc: Global, ctx: &Context<N>) -> Result<Cipher<N>, AllocError>
-    ensures set { IfOk result (λ c. c.set ≡ (ctx.now).set) }
-    ensures level { IfOk result (λ c. c.level ≡ (ctx.now).level) }
+    ensures { IfOk result (λ c. IsCipherOf (ctx.now) c) }
 {
     Cipher::<N>::new(alloc, ctx)
 }
@@ -69,8 +69,7 @@ fn time_encrypt<const N: usize, R: Print + Clock>(rt: &R, ctx: &Context<N>, publ
     requires degree { N ≤ 32768 }
     requires level { (ctx.now).level ≡ length (data_of (ctx.now).set) }
     requires public_set { (public.now).set ≡ (ctx.now).set }
-    requires out_set { (out.old).set ≡ (ctx.now).set }
-    requires out_level { (out.old).level ≡ (ctx.now).level }
+    requires out_of { IsCipherOf (ctx.now) (out.old) }
     requires scratch { length scratch.old ≡ scratch_rows_in (ctx.now) }
 {
     let mut plain = [0; N];
@@ -118,12 +117,12 @@ invariant-loop-i g l = record { set : l.key.set ≡ l.ctx.set }
 ANTT
 proof time_encrypt/Invariants.antt <<'ANTT'
 use Rattle.std.proofs.Common.{◌≡◌, length}
+use Rattle.bfv_params.specs.Ciphers.{IsCipherOf}
 use Rattle.encrypt_bench.proofs.time_encrypt.Given as goal
 
 abbrev pub invariant-turns : goal.invariant-turns
 invariant-turns g l = record {
-  set : l.out.set ≡ l.ctx.set;
-  level : l.out.level ≡ l.ctx.level;
+  out_of : IsCipherOf l.ctx l.out;
   scratch : length l.scratch ≡ length l.fn.scratch;
 }
 ANTT

@@ -1,13 +1,12 @@
 -- What the verdict on a script says of its exact bounds, where its inputs have the bounds that files state.
 use Rattle.std.proofs.Common.{◌≡◌, ⊎_elim, ℕ, ◌*◌, ◌^◌, ◌<◌, ◌≤◌, zero, suc, All, List, [], ◌∷◌, length, get_or, refl, sym, ◌∙◌, ap, subst, arith}
 use Rattle.std.specs.Prelude.{true, IsTrue, slice_index}
-use Rattle.std.specs.List.{flat_map}
 use Rattle.std.proofs.Math.Nat.{mul-le-mul_left}
 use Rattle.std.proofs.Math.Pow.{pow_mono}
 use Rattle.std.proofs.lemmas.Bool.{cases_lt}
 use Rattle.std.proofs.lemmas.List.{take_all, get_or-map, get_or_default, get_or_past, length-map}
 use Rattle.set_table.specs.declared.SetName.{SetName}
-use Rattle.set_table.specs.Sets.{degree_of, data_of}
+use Rattle.set_table.specs.Sets.{data_of}
 use Rattle.ring_law.specs.Moduli.{product}
 use Rattle.bound_num.specs.declared.Bound.{Bound}
 use Rattle.bound_num.specs.Bound.{bound_value}
@@ -18,10 +17,7 @@ use Rattle.file_model.proofs.DrawnFiles.{bound_fits-from_canonical}
 use Rattle.bfv_model.proofs.Limits.{limit_le, limit_lt}
 use Rattle.file_model.proofs.Rules.{cipher_bound}
 use Rattle.bfv_params.specs.Moduli.{data_at}
-use Rattle.script_text.specs.declared.script.Op.{Op}
-use Rattle.script_text.specs.declared.script.Op.TheVariants.{Add, Sub, Neg, AddPlain, SubPlain, MulPlain, MulConst, Mul, Relin, Turn, Swap}
-use Rattle.script_text.specs.declared.script.Step.{Step}
-use Rattle.script_text.specs.Scripts.{Script, IsSound, cipher_inputs, is_linear, keys_needed, needs_of}
+use Rattle.script_text.specs.Scripts.{Script, IsSound, cipher_inputs}
 use Rattle.noise_check.specs.ExactBounds.{exact_bounds}
 use Rattle.noise_check.specs.RoundedBounds.{rounded_bounds}
 use Rattle.noise_check.specs.Numbers.{numbers, AllCanonical}
@@ -48,29 +44,6 @@ stated_exponent set mantissa exponent fits =
     let low = limit_lt set in
     absurd (omega arith))
     (cases_lt exponent 400)
-
--- ---- linear scripts
-no_keys : (n : ℕ) (op : Op) → is_linear op ≡ true → keys_needed n op ≡ []
-no_keys n (Add a b) linear = refl
-no_keys n (Sub a b) linear = refl
-no_keys n (Neg a) linear = refl
-no_keys n (AddPlain a p) linear = refl
-no_keys n (SubPlain a p) linear = refl
-no_keys n (MulPlain a p) linear = refl
-no_keys n (MulConst a k) linear = refl
-no_keys n (Mul a b) linear = refl
-no_keys n (Relin a) linear = absurd (cc)
-no_keys n (Turn a k) linear = absurd (cc)
-no_keys n (Swap a) linear = absurd (cc)
-
-no_keys_of : (n : ℕ) (steps : List Step) → All (λ step. is_linear step.op ≡ true) steps → length (flat_map (λ step. keys_needed n step.op) steps) ≡ 0
-no_keys_of n [] linear = refl
-no_keys_of n (step ∷ steps) linear =
-    rw (no_keys n step.op (linear 0 step (omega arith))) (no_keys_of n steps (λ i d below. linear (suc i) d (omega arith)))
-
--- a linear script needs no keys
-pub linear_needs_none : (script : Script) → All (λ step. is_linear step.op ≡ true) script.steps → length (needs_of script) ≡ 0
-linear_needs_none script linear = no_keys_of (degree_of script.set) script.steps linear
 
 -- ---- an accepted script
 -- the bound at a place of a list

@@ -1,55 +1,27 @@
 -- From the stages of a batch to its answer.
 use Rattle.std.proofs.Common.{◌≡◌, ◌≢◌, ◌⊎◌, inl, inr, ⊎_elim, ℕ, ◌≤◌, List, length, refl, sym, ◌∙◌, ap, subst, le_trans, le_of_eq}
-use Rattle.std.specs.Prelude.{Option, Some, None, Ok, Err, slice_get}
+use Rattle.std.specs.Prelude.{Some, None, Ok, Err, slice_get}
+use Rattle.std.specs.Option.{ForSome}
 use Rattle.outer_io.specs.Store.{Files, StoreState, OnlyReads}
 use Rattle.outer_io.specs.Sink.{SinkState}
 use Rattle.command_words.specs.Form.{form_of}
+use Rattle.command_words.specs.Line.{word_at}
 use Rattle.command_words.specs.declared.form.Form.TheVariants.{Batch}
 use Rattle.command_words.specs.declared.status.Status.{Status}
 use Rattle.command_words.specs.declared.status.Status.TheVariants.{Done, Memory, ReadFault, WriteFault}
-use Rattle.command_model.specs.Plan.{commands, plan, plan_of_batch}
-use Rattle.command_model.specs.Answers.{Cause, IsFault, Printed, Told}
+use Rattle.command_model.specs.Reading.{batch_file, commands}
+use Rattle.command_model.specs.Plan.{plan}
+use Rattle.command_model.specs.Answers.{IsFault, Printed}
 use Rattle.command_model.specs.Batches.{World, NoCountFell, Answered, Chain, AreRun, BatchAnswered}
 use Rattle.bfv_commands.specs.Batching.{InOrder, all_done, stopped}
-use Rattle.command_stages.specs.Stages.{Caused}
-use Rattle.bfv_commands.proofs.Answering.{answer_apart, cause_of_refusal, complete_answer}
-use Rattle.command_stages.proofs.Outputs.{plan_of_this, told_refused}
-use Rattle.command_stages.proofs.Running.{reads_nothing}
-use Rattle.bfv_commands.proofs.Chains.{counts_of_reads, counts_then, chain_counts, cause_from, chain_told, same_stand, chain_follows}
+use Rattle.command_model.specs.Commanded.{Caused, Stopped}
+use Rattle.command_stages.specs.Stages.{Untaken}
+use Rattle.command_stages.proofs.Causes.{reads_nothing}
+use Rattle.command_stages.proofs.Ways.{start, operand_named, stopped_at, commanded_stop, counts_of_reads}
+use Rattle.bfv_commands.proofs.Answering.{answered_stopped, cause_of_done}
+use Rattle.bfv_commands.proofs.Chains.{counts_then, chain_counts, cause_from, chain_told, same_stand, chain_follows}
 
 -- ---- a batch whose text wasn't taken
--- what is known then: the worlds before and after, and the status that reading the text gave
-pub record Untaken (words : List (List ℕ)) (old new : World) (status answer : Status) : Type 0 where
-  pub form : form_of words ≡ Some Batch
-  pub idle : old.store.pending ≡ None
-  pub reads : OnlyReads old.store new.store
-  pub caused : Caused (λ word. word ≡ 1) old.store new.store status
-  pub not_written : status ≢ WriteFault
-  pub why : (files : Files) → old.store.files ≡ Some files → IsFault status ⊎ (plan_of_batch words files ≡ Err status)
-  pub same : (answer ≡ status) ⊎ (answer ≡ Memory)
-  pub printed : (before : Option Files) → Printed words before old.sink new.sink answer
-  pub puts : old.sink.faults ≤ new.sink.faults
-
--- it answers as any command that is refused
-untaken_answered : (words : List (List ℕ)) (old new : World) (status answer : Status) → Untaken words old new status answer → Answered words old new answer
-untaken_answered words old new status answer u =
-    let apart = answer_apart status answer u.caused.refused u.same in
-    let told : (files : Files) → old.store.files ≡ Some files → Told words files new.store.files answer =
-    λ files was. told_refused Batch words files new.store.files status answer u.form u.caused.refused (u.reads.files ∙ was) (u.why files was) (λ writes. absurd (u.not_written writes))
-    (λ word _. tt) u.same in
-    let cause : Cause words old.store new.store old.sink new.sink answer =
-    cause_of_refusal words Batch old.store new.store old.sink new.sink status answer u.form u.caused (λ writes. absurd (u.not_written writes)) u.same in
-    record {
-      idle = u.reads.pending ∙ u.idle;
-      told = told;
-      complete = λ files was none. complete_answer words old.store new.store old.sink new.sink (plan words files) answer cause none ((told files was).refused apart);
-      stands = λ done. absurd (apart done);
-      cause = cause;
-      printed = u.printed old.store.files;
-      counts = counts_of_reads old.store new.store u.reads;
-      puts = u.puts;
-    }
-
 -- a fault before the first command is want of memory, or the file of the batch couldn't be read
 stop_of : (status answer : Status) (old new : StoreState) → IsFault status → status ≢ WriteFault → Caused (λ word. word ≡ 1) old new status
     → (answer ≡ status) ⊎ (answer ≡ Memory) → (answer ≡ Memory) ⊎ (answer ≡ ReadFault 1)
@@ -58,37 +30,41 @@ stop_of (ReadFault word) answer old new fault not_written caused same = ⊎_elim
 stop_of WriteFault answer old new fault not_written caused same = absurd (not_written refl)
 stop_of _ answer old new fault not_written caused same = absurd fault
 
--- words of a batch are planned by it
-batch_plan : (words : List (List ℕ)) (files : Files) → form_of words ≡ Some Batch → plan words files ≡ plan_of_batch words files
-batch_plan words files form = plan_of_this Batch words files form
+-- it answers as any command that stops
+pub untaken : (words : List (List ℕ)) (old new : World) (status answer : Status) → form_of words ≡ Some Batch → old.store.pending ≡ None → OnlyReads old.store new.store
+    → Untaken (word_at words 1) 1 batch_file old.store new.store status → (answer ≡ status) ⊎ (answer ≡ Memory) → Printed words old.store.files old.sink new.sink answer
+    → old.sink.faults ≤ new.sink.faults → BatchAnswered words old new answer
+untaken words old new status answer form idle reads un same printed puts = record {
+  idle = answered.idle;
+  counts = answered.counts;
+  puts = puts;
+  cause = (words, (inl refl, answered.cause));
+  refused = λ files was refusal planned. (apart, answered);
+  ran = λ files was listed planned.
+      let fault : IsFault status =
+      ⊎_elim (λ fault. fault) (λ (refusal : plan words files ≡ Err status). let never = sym planned ∙ refusal in absurd (cc)) (stop.told files was) in
+      record {
+        start = old;
+        reads = reads_nothing old.store;
+        silent = refl;
+        count = 0;
+        reached = old;
+        chain = refl;
+        files = reads.files;
+        stands = λ before told after now state stands. same_stand before after old.store.files state told (sym reads.files ∙ now) stands;
+        done = λ done. absurd (apart done);
+        stopped = λ _. inr (refl, (stop_of status answer old.store new.store fault un.reads un.caused same, answered));
+      };
+}
+  where
+    stop : Stopped words old.store new.store status
+    stop = stopped_at (start Batch words old.store form) reads un (operand_named Batch words 1 form refl)
 
-pub untaken : (words : List (List ℕ)) (old new : World) (status answer : Status) → Untaken words old new status answer → BatchAnswered words old new answer
-untaken words old new status answer u =
-    let apart = answer_apart status answer u.caused.refused u.same in
-    let answered = untaken_answered words old new status answer u in
-    record {
-      idle = answered.idle;
-      counts = answered.counts;
-      puts = u.puts;
-      cause = (words, (inl refl, answered.cause));
-      refused = λ files was refusal planned. (apart, answered);
-      ran = λ files was listed planned.
-          let fault : IsFault status =
-          ⊎_elim (λ fault. fault) (λ (refusal : plan_of_batch words files ≡ Err status). let never = sym planned ∙ batch_plan words files u.form ∙ refusal in absurd (cc)) (u.why files was) in
-          let stop = stop_of status answer old.store new.store fault u.not_written u.caused u.same in
-          record {
-            start = old;
-            reads = reads_nothing old.store;
-            silent = refl;
-            count = 0;
-            reached = old;
-            chain = refl;
-            files = u.reads.files;
-            stands = λ before told after now state stands. same_stand before after old.store.files state told (sym u.reads.files ∙ now) stands;
-            done = λ done. absurd (apart done);
-            stopped = λ _. inr (refl, (stop, answered));
-          };
-    }
+    answered : Answered words old new answer
+    answered = answered_stopped {T = Unit {0}} {left = λ _. None} words Batch old new status answer form idle (commanded_stop status reads stop) same printed puts
+
+    apart : answer ≢ Done
+    apart = ⊎_elim (λ (is : answer ≡ status). λ done. un.caused.refused (sym is ∙ done)) (λ (is : answer ≡ Memory). λ done. let never : Memory ≡ Done = sym is ∙ done in cc) same
 
 -- ---- a batch whose commands were run
 -- what is known then: the worlds before, with the text read, and after
@@ -96,7 +72,7 @@ pub record Taken (words : List (List ℕ)) (old mid new : World) (listed : List 
   pub form : form_of words ≡ Some Batch
   pub reads : OnlyReads old.store mid.store
   pub silent : mid.sink ≡ old.sink
-  pub planned : (files : Files) → old.store.files ≡ Some files → plan_of_batch words files ≡ Ok (commands listed)
+  pub planned : ForSome old.store.files (λ files. plan words files ≡ Ok (commands listed))
   pub order : InOrder listed mid new answer
   pub idle : new.store.pending ≡ None
 
@@ -105,33 +81,21 @@ taken_counts : (words : List (List ℕ)) (old mid new reached : World) (listed :
     → Chain listed mid count reached → NoCountFell old.store reached.store × (old.sink.faults ≤ reached.sink.faults)
 taken_counts words old mid new reached listed answer count t chain =
     let later = chain_counts listed mid reached count chain in (
-      counts_then old.store mid.store reached.store (counts_of_reads old.store mid.store t.reads) later.0,
+      counts_then old.store mid.store reached.store (counts_of_reads t.reads) later.0,
       le_trans (le_of_eq (ap (λ (sink : SinkState). sink.faults) (sym t.silent))) later.1,
     )
-
--- Done owes to nothing
-cause_of_done : (words : List (List ℕ)) (old new : StoreState) (old_sink new_sink : SinkState) → form_of words ≡ Some Batch → Cause words old new old_sink new_sink Done
-cause_of_done words old new old_sink new_sink form = record {
-  usage = λ usage. absurd (cc);
-  no_form = λ none. absurd (cc);
-  read = λ word fault. absurd (cc);
-  write = λ fault. absurd (cc);
-  missing = λ word fault. absurd (cc);
-  word = λ word at. absurd (cc);
-  binding = λ word at whole. absurd (cc);
-}
 
 -- a refusal of a text that was taken never comes
 never_refused : (words : List (List ℕ)) (old mid new : World) (listed : List (List (List ℕ))) (answer : Status) → Taken words old mid new listed answer → (files : Files)
     → old.store.files ≡ Some files → (refusal : Status) → plan words files ≡ Err refusal → ⊥
 never_refused words old mid new listed answer t files was refusal planned =
-    let never = sym planned ∙ batch_plan words files t.form ∙ t.planned files was in cc
+    let never = sym planned ∙ t.planned files was in cc
 
 -- the commands that are planned are those that were run
 same_commands : (words : List (List ℕ)) (old mid new : World) (listed others : List (List (List ℕ))) (answer : Status) → Taken words old mid new listed answer → (files : Files)
     → old.store.files ≡ Some files → plan words files ≡ Ok (commands others) → listed ≡ others
 same_commands words old mid new listed others answer t files was planned =
-    let both = sym (t.planned files was) ∙ sym (batch_plan words files t.form) ∙ planned in cc
+    let both = sym (t.planned files was) ∙ planned in cc
 
 -- all commands are done
 taken_done : (words : List (List ℕ)) (old mid new : World) (listed : List (List (List ℕ))) → Taken words old mid new listed Done → Chain listed mid (length listed) new
@@ -142,7 +106,7 @@ taken_done words old mid new listed t chain =
       idle = t.idle;
       counts = counts.0;
       puts = counts.1;
-      cause = (words, (inl refl, cause_of_done words old.store new.store old.sink new.sink t.form));
+      cause = (words, (inl refl, cause_of_done words Batch old.store new.store old.sink new.sink t.form));
       refused = λ files was refusal planned. absurd (never_refused words old mid new listed Done t files was refusal planned);
       ran = λ files was others planned. subst (λ (l : List (List (List ℕ))). AreRun words l old new Done) (same_commands words old mid new listed others Done t files was planned) record {
         start = mid;
@@ -171,7 +135,7 @@ taken_stopped words old mid new listed answer t count next reached at chain othe
       cause = (
         next,
         (
-          inr (λ files was. (listed, count, (batch_plan words files t.form ∙ t.planned files was, at))),
+          inr (λ files was. (listed, count, (t.planned files was, at))),
           cause_from next old.store reached.store new.store old.sink reached.sink new.sink answer counts.0 counts.1 answered.cause,
         ),
       );

@@ -1,12 +1,12 @@
 -- Commands that are done one after another.
-use Rattle.std.proofs.Common.{◌≡◌, ℕ, zero, suc, ◌+◌, ◌<◌, ◌≤◌, inl, inr, List, [], ◌∷◌, length, take, get_or, map, refl, sym, ◌∙◌, ap, subst, arith, add-one, le_trans, le_refl, le_of_eq}
+use Rattle.std.proofs.Common.{◌≡◌, ℕ, zero, suc, ◌+◌, ◌<◌, ◌≤◌, inl, inr, List, [], ◌∷◌, length, take, get_or, map, refl, sym, ◌∙◌, ap, subst, arith, add-one, le_trans, le_refl}
 use Rattle.std.specs.Prelude.{Option, Some, None, slice_get, String, Vec}
 use Rattle.std.specs.Option.{option_map}
 use Rattle.std.specs.String.{string_bytes}
 use Rattle.std.specs.FinMap as map_of
 use Rattle.std.specs.declared.alloc.Global.{Global}
 use Rattle.std.proofs.lemmas.Option.{slice_get-map, slice_get_read}
-use Rattle.outer_io.specs.Store.{Files, StoreState, Rose, OnlyReads}
+use Rattle.outer_io.specs.Store.{Files, StoreState, Rose}
 use Rattle.outer_io.specs.Sink.{SinkState}
 use Rattle.batch_text.specs.Reading.{texts}
 use Rattle.command_words.specs.Form.{form_of}
@@ -38,9 +38,6 @@ words_at commands i words below is =
     ∙ ap (option_map (λ (ws : Vec (String Global) Global). map string_bytes ws.items)) (slice_get_read commands _ i words refl below is)
 
 -- ---- counts
-pub counts_of_reads : (old new : StoreState) → OnlyReads old new → NoCountFell old new
-counts_of_reads old new reads = record { reading = reads.faults; writing = le_of_eq (sym reads.write_faults); missing = reads.misses }
-
 pub counts_then : (old mid new : StoreState) → NoCountFell old mid → NoCountFell mid new → NoCountFell old new
 counts_then old mid new first second = record {
   reading = le_trans first.reading second.reading;
@@ -67,6 +64,7 @@ rose_from old mid new below (inr last) = inr last
 pub cause_from : (words : List (List ℕ)) (old mid new : StoreState) (old_sink mid_sink new_sink : SinkState) (answer : Status) → NoCountFell old mid
     → old_sink.faults ≤ mid_sink.faults → Cause words mid new mid_sink new_sink answer → Cause words old new old_sink new_sink answer
 cause_from words old mid new old_sink mid_sink new_sink answer counts puts cause = record {
+  refusal = cause.refusal;
   usage = cause.usage;
   no_form = cause.no_form;
   read = λ word is. rose_from old.faults mid.faults new.faults counts.reading (cause.read word is);

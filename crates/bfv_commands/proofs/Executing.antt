@@ -37,7 +37,7 @@ use Rattle.command_model.specs.Plain.{Owner, BelongsTo, IsSealed}
 use Rattle.run_operands.specs.declared.bound_files.BoundCipher.{BoundCipher}
 use Rattle.run_operands.specs.declared.bound_files.Operand.{Operand}
 use Rattle.run_operands.specs.BoundFiles.{AreHeld, MayBeBound}
-use Rattle.command_stages.specs.Stages.{AreSealed}
+use Rattle.bfv_commands.specs.RunStages.{AreSealed}
 use Rattle.bfv_commands.specs.Filled.{AreListed, HasWordsOf, HaveWordsOf}
 use Rattle.key_commands.proofs.Decryptions.{at_all_moduli}
 

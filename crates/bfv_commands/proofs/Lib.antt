@@ -1,8 +1,5 @@
 pub mod InputNames
-pub mod Owners
-pub mod MadeItems
 pub mod RunItems
-pub mod Standing
 pub mod AcceptedRuns
 pub mod OutputParts
 pub mod Answering

@@ -1,6 +1,6 @@
 -- The file that `run` writes stands for what the plain machine makes of a script.
 use Rattle.std.proofs.Common.{◌≡◌, ℕ, ◌+◌, ◌<◌, zero, suc, List, [], ◌∷◌, length, map, refl, sym, ◌∙◌, ap, subst, arith}
-use Rattle.std.specs.Prelude.{Bool, true, false, cond, get_or, filter, Option, Some, None, option_and_then, slice_get, unwrap_or, Result, Ok, Err, if◌then◌else◌}
+use Rattle.std.specs.Prelude.{Bool, true, false, cond, get_or, filter, Option, Some, None, option_and_then, slice_get, slice_index_or, unwrap_or, Result, Ok, Err, if◌then◌else◌}
 use Rattle.std.specs.List.{zip}
 use Rattle.std.specs.Option.{option_map}
 use Rattle.std.specs.Result.{result_ok}
@@ -8,6 +8,7 @@ use Rattle.std.proofs.lemmas.List.{get_or-map}
 use Rattle.outer_io.specs.Store.{Files, file}
 use Rattle.set_table.specs.declared.SetName.{SetName}
 use Rattle.set_table.specs.Sets.{degree_of, plain_of}
+use Rattle.bound_num.specs.declared.Bound.{Bound}
 use Rattle.file_model.specs.declared.file_kind.FileKind.TheVariants as kind
 use Rattle.file_model.specs.FileText.{FileContent}
 use Rattle.file_model.specs.declared.head.Wanted.TheVariants as wanted
@@ -22,17 +23,19 @@ use Rattle.script_text.specs.Scripts.{Script, IsSound, is_cipher, is_plain, ciph
 use Rattle.script_text.specs.Value.{lists_of, value_of}
 use Rattle.command_words.specs.Form.{binding_file, binding_name}
 use Rattle.command_words.specs.Line.{word_at}
+use Rattle.command_words.specs.declared.status.Status.TheVariants.{BadScript, BadValues}
 use Rattle.command_model.specs.Bindings.{Operand, bound_cipher, bound_values, no_content, content_of, values_in, operand_of, bindings_of, bound_names, input_named, kind_at, place_bound, ciphers_of, plains_of}
-use Rattle.command_model.specs.Plan.{and_then, taken, taken_values, values_or_fault, script_or_fault, taken_operand, operand_bound, operands_from, taken_script, Output}
+use Rattle.command_model.specs.Reading.{own_file, values_file, script_file, taken, or_refused}
+use Rattle.command_model.specs.Plan.{run_of}
 use Rattle.command_model.specs.Plain.{Owner, Item, text, sealed, State, Stands, IsItem, IsSealed, same_owner, item_bound, owner_of, values_given, all_given, sealed_value, ran_script, ran}
-use Rattle.command_stages.specs.Stages.{AreSealed}
-use Rattle.command_stages.specs.Stages.{IsRunOf}
-use Rattle.command_stages.proofs.Steps.{both_steps}
+use Rattle.command_stages.specs.Stages.{Says}
+use Rattle.command_stages.proofs.Ways.{says_taken}
+use Rattle.run_operands.specs.BoundFiles.{AreBound, IsBoundAt}
 use Rattle.run_operands.proofs.InOrder.{own_kind}
+use Rattle.key_commands.proofs.MadeItems.{content_at, belongs_wanted, text_at}
+use Rattle.key_commands.proofs.Owners.{same_owner_equal}
+use Rattle.bfv_commands.specs.RunStages.{AreSealed, IsRunOf}
 use Rattle.bfv_commands.proofs.InputNames.{binding_at, bound_at}
-use Rattle.bfv_commands.proofs.MadeItems.{content_at, belongs_wanted, text_at}
-use Rattle.bfv_commands.proofs.Owners.{same_owner_equal}
-use Rattle.command_stages.proofs.RunPlans.{PlannedRun, run_of}
 
 -- ---- what is given to inputs
 -- where all are given, the first and the others are
@@ -86,29 +89,6 @@ lists_count given (x ∷ xs) lists is =
     let c = given_cons (given x) (all_given (map given xs)) lists is in
     ap length c.1.1.2 ∙ ap suc (lists_count given xs c.1.0 c.1.1.1)
 
--- ---- operands
--- the operand of a place is that of its binding, where it is so for the others
-operand_behind : (script : Script) (files : Files) (word : ℕ) (binding : List ℕ) (bindings : List (List ℕ)) (operand : Operand) (rest : List Operand)
-    → operand_bound script files word binding ≡ Ok operand
-    → ((p : ℕ) (d : Operand) → p < length bindings → operand_bound script files (word + 1 + p) (get_or bindings p []) ≡ Ok (get_or rest p d))
-    → (p : ℕ) (d : Operand) → p < length (binding ∷ bindings)
-    → operand_bound script files (word + p) (get_or (binding ∷ bindings) p []) ≡ Ok (get_or (operand ∷ rest) p d)
-operand_behind script files word binding bindings operand rest first others zero d below =
-    subst (λ (w : ℕ). operand_bound script files w binding ≡ Ok operand) {x = word} {y = word + 0} (omega arith) first
-operand_behind script files word binding bindings operand rest first others (suc p) d below =
-    subst (λ (w : ℕ). operand_bound script files w (get_or bindings p []) ≡ Ok (get_or rest p d)) {x = word + 1 + p} {y = word + suc p} (omega arith) (others p d (omega arith))
-
--- each binding has its operand
-operand_at : (script : Script) (files : Files) (word : ℕ) (bindings : List (List ℕ)) (operands : List Operand) → operands_from script files word bindings ≡ Ok operands
-    → (p : ℕ) (d : Operand) → p < length bindings → operand_bound script files (word + p) (get_or bindings p []) ≡ Ok (get_or operands p d)
-operand_at script files word [] operands is p d below = absurd (omega arith)
-operand_at script files word (binding ∷ bindings) operands is p d below =
-    let first = both_steps (operand_bound script files word binding) (λ operand. and_then (operands_from script files (word + 1) bindings) (λ others. Ok (operand ∷ others))) operands is in
-    let others = both_steps (operands_from script files (word + 1) bindings) (λ rest. Ok (first.0 ∷ rest)) operands first.1.1 in
-    let all : operands ≡ first.0 ∷ others.0 = let last = others.1.1 in cc in
-    subst (λ (os : List Operand). operand_bound script files (word + p) (get_or (binding ∷ bindings) p []) ≡ Ok (get_or os p d)) (sym all)
-    (operand_behind script files word binding bindings first.0 others.0 first.1.0 (operand_at script files (word + 1) bindings others.0 others.1.0) p d below)
-
 -- ---- what the items give
 -- an input whose file stands for an item is bound at a place
 item_place : (words : List (List ℕ)) (state : State) (x : Input) (item : Item) → item_bound words state x ≡ Some item
@@ -144,73 +124,63 @@ values_of_text owner set input.Cipher item values of_kind is = absurd (cc)
 values_of_text owner set input.Plain _ values of_kind is = absurd (cc)
 
 -- ---- what the operands are
-taken_cipher : (set : SetName) (kind : InputKind) (word : ℕ) (held : Option (List ℕ)) (operand : Operand) → kind ≡ input.Cipher → taken_operand set kind word held ≡ Ok operand
-    → (content : FileContent) × ((taken wanted.Cipher word held ≡ Ok content) × (operand ≡ bound_cipher content))
-taken_cipher set input.Cipher word held operand of_kind is =
-    let first = both_steps (taken wanted.Cipher word held) (λ content. Ok (bound_cipher content)) operand is in
-    (first.0, (first.1.0, let last = first.1.1 in cc))
-taken_cipher set input.Plain word held operand of_kind is = absurd (cc)
+-- the file that is bound to an input says the operand of the input
+operand_bound : (words : List (List ℕ)) (files : Files) (script : Script) (planned : List Operand) (given : Input → Option (List ℕ)) (x : Input) (values : List ℕ) (place : ℕ)
+    → IsSound script → AreBound script words files planned → length planned ≡ length (bindings_of words) → GivenTo given script.inputs x values
+    → place_bound (bound_names words) x.name ≡ Some place
+    → IsBoundAt files script.set x.kind (binding_file (word_at words (3 + place))) (3 + place) (operand_of (bound_names words) planned x)
+operand_bound words files script planned given x values place sound bound count to is =
+    let at = bound_at words x.name place is in
+    let named : binding_name (word_at words (3 + place)) ≡ x.name = ap binding_name (sym (binding_at words place)) ∙ at.1 in
+    let kind_is : kind_at script (input_named script (binding_name (word_at words (3 + place)))) ≡ x.kind =
+    ap (λ (name : List ℕ). kind_at script (input_named script name)) named ∙ own_kind script to.place x sound to.at in
+    let operand_is : operand_of (bound_names words) planned x ≡ slice_index_or planned place (bound_values []) =
+    ap (λ (found : Option ℕ). slice_index_or planned (unwrap_or found 0) (bound_values [])) is in
+    subst (λ (operand : Operand). IsBoundAt files script.set x.kind (binding_file (word_at words (3 + place))) (3 + place) operand) (sym operand_is)
+    (subst (λ (kind : InputKind). IsBoundAt files script.set kind (binding_file (word_at words (3 + place))) (3 + place) (slice_index_or planned place (bound_values []))) kind_is
+    (bound.each place (subst (λ (n : ℕ). place < n) (sym count) at.0)))
 
-taken_plain : (set : SetName) (kind : InputKind) (word : ℕ) (held : Option (List ℕ)) (operand : Operand) → kind ≡ input.Plain → taken_operand set kind word held ≡ Ok operand
-    → (values : List ℕ) × ((taken_values set word held ≡ Ok values) × (operand ≡ bound_values values))
-taken_plain set input.Plain word held operand of_kind is =
-    let first = both_steps (taken_values set word held) (λ listed. Ok (bound_values listed)) operand is in
-    (first.0, (first.1.0, let last = first.1.1 in cc))
-taken_plain set input.Cipher word held operand of_kind is = absurd (cc)
+bound_content : (files : Files) (set : SetName) (kind : InputKind) (name : List ℕ) (word : ℕ) (operand : Operand) → kind ≡ input.Cipher → IsBoundAt files set kind name word operand
+    → (content : FileContent) × ((operand ≡ bound_cipher content) × (taken (own_file wanted.Cipher) word (file files name) ≡ Ok content))
+bound_content files set input.Cipher name word operand of_kind (content, (is, says)) = (content, (is, says_taken says))
+bound_content files set input.Plain name word operand of_kind bound = absurd (cc)
 
--- the operand that was taken of the file of an input which is bound at a place
-pub record OperandTaken (words : List (List ℕ)) (files : Files) (script : Script) (operands : List Operand) (x : Input) (place : ℕ) : Type 0 where
-  pub operand : Operand
-  pub bound : operand_of (bound_names words) operands x ≡ operand
-  pub taken : taken_operand script.set x.kind (3 + place) (file files (binding_file (word_at words (3 + place)))) ≡ Ok operand
-
-operand_taken : (words : List (List ℕ)) (files : Files) (script : Script) (operands : List Operand) (given : Input → Option (List ℕ)) (x : Input) (values : List ℕ) (place : ℕ)
-    → IsSound script → operands_from script files 3 (bindings_of words) ≡ Ok operands → GivenTo given script.inputs x values
-    → place_bound (bound_names words) x.name ≡ Some place → OperandTaken words files script operands x place
-operand_taken words files script operands given x values place sound all to is =
-    let b = bound_at words x.name place is in
-    let binding = get_or (bindings_of words) place [] in
-    let kind_is : kind_at script (input_named script (binding_name binding)) ≡ x.kind =
-    ap (λ (name : List ℕ). kind_at script (input_named script name)) b.1 ∙ own_kind script to.place x sound to.at in
-    let at = operand_at script files 3 (bindings_of words) operands all place (bound_values []) b.0 in
-    let of_kind = subst (λ (kind : InputKind). taken_operand script.set kind (3 + place) (file files (binding_file binding)) ≡ Ok (get_or operands place (bound_values []))) kind_is at in
-    record {
-      operand = get_or operands place (bound_values []);
-      bound = ap (λ (found : Option ℕ). get_or operands (unwrap_or found 0) (bound_values [])) is;
-      taken = subst (λ (word : List ℕ). taken_operand script.set x.kind (3 + place) (file files (binding_file word)) ≡ Ok (get_or operands place (bound_values []))) (binding_at words place) of_kind;
-    }
+bound_list : (files : Files) (set : SetName) (kind : InputKind) (name : List ℕ) (word : ℕ) (operand : Operand) → kind ≡ input.Plain → IsBoundAt files set kind name word operand
+    → (values : List ℕ) × ((operand ≡ bound_values values) × (taken (values_file set) word (file files name) ≡ Ok values))
+bound_list files set input.Plain name word operand of_kind (values, (is, says)) = (values, (is, says_taken says))
+bound_list files set input.Cipher name word operand of_kind bound = absurd (cc)
 
 -- the content that is bound to a cipher input seals the values that it is given
-sealed_operand : (words : List (List ℕ)) (files : Files) (state : State) (script : Script) (operands : List Operand) (owner : Owner) (x : Input) (values : List ℕ) → Stands files state
-    → IsSound script → operands_from script files 3 (bindings_of words) ≡ Ok operands → x.kind ≡ input.Cipher
+sealed_operand : (words : List (List ℕ)) (files : Files) (state : State) (script : Script) (planned : List Operand) (owner : Owner) (x : Input) (values : List ℕ) → Stands files state
+    → IsSound script → AreBound script words files planned → length planned ≡ length (bindings_of words) → x.kind ≡ input.Cipher
     → GivenTo (λ input. values_given owner script.set input.kind (item_bound words state input)) script.inputs x values
-    → IsSealed owner values (content_of (operand_of (bound_names words) operands x))
-sealed_operand words files state script operands owner x values stands sound all of_kind to =
+    → IsSealed owner values (content_of (operand_of (bound_names words) planned x))
+sealed_operand words files state script planned owner x values stands sound bound count of_kind to =
     let c = cipher_given owner script.set x.kind (item_bound words state x) values of_kind to.values_are in
     let at = item_place words state x (sealed c.0 values) c.1.0 in
-    let o = operand_taken words files script operands (λ input. values_given owner script.set input.kind (item_bound words state input)) x values at.0 sound all to at.1.0 in
     let name = binding_file (word_at words (3 + at.0)) in
-    let t = taken_cipher script.set x.kind (3 + at.0) (file files name) o.operand of_kind o.taken in
-    let held = content_at files name wanted.Cipher (3 + at.0) t.0 (IsSealed c.0 values) (λ held s. belongs_wanted wanted.Cipher c.0 kind.Cipher held refl s.belongs) t.1.0
+    let one = bound_content files script.set x.kind name (3 + at.0) (operand_of (bound_names words) planned x) of_kind
+    (operand_bound words files script planned (λ input. values_given owner script.set input.kind (item_bound words state input)) x values at.0 sound bound count to at.1.0) in
+    let held = content_at files name wanted.Cipher (3 + at.0) one.0 (IsSealed c.0 values) (λ held s. belongs_wanted wanted.Cipher c.0 kind.Cipher held refl s.belongs) one.1.1
     (stands.each name (sealed c.0 values) at.1.1) in
-    let content_is : content_of (operand_of (bound_names words) operands x) ≡ t.0 = ap content_of (o.bound ∙ t.1.1) in
-    subst (λ (content : FileContent). IsSealed owner values content) (sym content_is)
-    (subst (λ (o : Owner). IsSealed o values t.0) (sym (same_owner_equal owner c.0 c.1.1)) held.is)
+    subst (λ (content : FileContent). IsSealed owner values content) (sym (ap content_of one.1.0))
+    (subst (λ (o : Owner). IsSealed o values one.0) (sym (same_owner_equal owner c.0 c.1.1)) held.is)
 
 -- the values that are bound to a plain input are those that it is given
-listed_operand : (words : List (List ℕ)) (files : Files) (state : State) (script : Script) (operands : List Operand) (owner : Owner) (x : Input) (values : List ℕ) → Stands files state
-    → IsSound script → operands_from script files 3 (bindings_of words) ≡ Ok operands → x.kind ≡ input.Plain
+listed_operand : (words : List (List ℕ)) (files : Files) (state : State) (script : Script) (planned : List Operand) (owner : Owner) (x : Input) (values : List ℕ) → Stands files state
+    → IsSound script → AreBound script words files planned → length planned ≡ length (bindings_of words) → x.kind ≡ input.Plain
     → GivenTo (λ input. values_given owner script.set input.kind (item_bound words state input)) script.inputs x values
-    → values_in (operand_of (bound_names words) operands x) ≡ values
-listed_operand words files state script operands owner x values stands sound all of_kind to =
+    → values_in (operand_of (bound_names words) planned x) ≡ values
+listed_operand words files state script planned owner x values stands sound bound count of_kind to =
     let c = values_of_text owner script.set x.kind (item_bound words state x) values of_kind to.values_are in
     let at = item_place words state x (text c.0) c.1.0 in
-    let o = operand_taken words files script operands (λ input. values_given owner script.set input.kind (item_bound words state input)) x values at.0 sound all to at.1.0 in
     let name = binding_file (word_at words (3 + at.0)) in
-    let t = taken_plain script.set x.kind (3 + at.0) (file files name) o.operand of_kind o.taken in
-    let read : Ok t.0 ≡ Ok values = sym t.1.0 ∙ ap (taken_values script.set (3 + at.0)) (text_at files state name c.0 stands at.1.1) ∙ ap (values_or_fault (3 + at.0)) c.1.1 in
-    let same : t.0 ≡ values = cc in
-    ap values_in (o.bound ∙ t.1.1) ∙ same
+    let one = bound_list files script.set x.kind name (3 + at.0) (operand_of (bound_names words) planned x) of_kind
+    (operand_bound words files script planned (λ input. values_given owner script.set input.kind (item_bound words state input)) x values at.0 sound bound count to at.1.0) in
+    let read : Ok one.0 ≡ Ok values =
+    sym one.1.1 ∙ ap (taken (values_file script.set) (3 + at.0)) (text_at files state name c.0 stands at.1.1) ∙ ap (or_refused (BadValues (3 + at.0))) c.1.1 in
+    let same : one.0 ≡ values = cc in
+    ap values_in one.1.0 ∙ same
 
 -- ---- the inputs of a script
 -- an input of no script
@@ -226,23 +196,23 @@ plain_kind input.Plain is = refl
 plain_kind input.Cipher is = absurd (cc)
 
 -- the operands seal, or are, the values that the plain machine gives to the inputs
-are_sealed : (words : List (List ℕ)) (files : Files) (state : State) (script : Script) (operands : List Operand) (owner : Owner) (lists : List (List ℕ)) → Stands files state
-    → IsSound script → operands_from script files 3 (bindings_of words) ≡ Ok operands
+are_sealed : (words : List (List ℕ)) (files : Files) (state : State) (script : Script) (planned : List Operand) (owner : Owner) (lists : List (List ℕ)) → Stands files state
+    → IsSound script → AreBound script words files planned → length planned ≡ length (bindings_of words)
     → all_given (map (λ input. values_given owner script.set input.kind (item_bound words state input)) script.inputs) ≡ Some lists
-    → AreSealed owner script (ciphers_of script (bound_names words) operands) (plains_of script (bound_names words) operands) lists
-are_sealed words files state script operands owner lists stands sound all given = record {
+    → AreSealed owner script (ciphers_of script (bound_names words) planned) (plains_of script (bound_names words) planned) lists
+are_sealed words files state script planned owner lists stands sound bound count given = record {
   listed = lists_count given_to script.inputs lists given;
   ciphers = λ r below.
       let own = own_list given_to is_cipher script.inputs lists given r no_input below in
       let x = get_or (cipher_inputs script.inputs) r no_input in
       subst (λ (content : FileContent). IsSealed owner (get_or (lists_of is_cipher script.inputs lists) r []) content)
-      (sym (get_or-map (λ input. content_of (operand_of (bound_names words) operands input)) (cipher_inputs script.inputs) r no_input no_content below))
-      (sealed_operand words files state script operands owner x (get_or (lists_of is_cipher script.inputs lists) r []) stands sound all (cipher_kind x.kind own.0) own.1);
+      (sym (get_or-map (λ input. content_of (operand_of (bound_names words) planned input)) (cipher_inputs script.inputs) r no_input no_content below))
+      (sealed_operand words files state script planned owner x (get_or (lists_of is_cipher script.inputs lists) r []) stands sound bound count (cipher_kind x.kind own.0) own.1);
   values = λ p below.
       let own = own_list given_to is_plain script.inputs lists given p no_input below in
       let x = get_or (plain_inputs script.inputs) p no_input in
-      get_or-map (λ input. values_in (operand_of (bound_names words) operands input)) (plain_inputs script.inputs) p no_input [] below
-      ∙ listed_operand words files state script operands owner x (get_or (lists_of is_plain script.inputs lists) p []) stands sound all (plain_kind x.kind own.0) own.1;
+      get_or-map (λ input. values_in (operand_of (bound_names words) planned input)) (plain_inputs script.inputs) p no_input [] below
+      ∙ listed_operand words files state script planned owner x (get_or (lists_of is_plain script.inputs lists) p []) stands sound bound count (plain_kind x.kind own.0) own.1;
 }
   where
     given_to : Input → Option (List ℕ)
@@ -291,14 +261,15 @@ ran_is words state (Some (text bytes)) item is = of_script (script_of bytes) ref
 ran_is words state _ item is = absurd (cc)
 
 -- the file that `run` writes stands for the script's value, sealed for the owner of the inputs
-pub item_ran : (words : List (List ℕ)) (files : Files) (state : State) (output : Output) (bytes : List ℕ) (item : Item) → Stands files state → (p : PlannedRun words files output)
-    → IsRunOf (run_of p.script (bound_names words) p.operands p.bounds) bytes → ran words state (state (word_at words 1)) ≡ Some item → IsItem item bytes
-item_ran words files state output bytes item stands p made is =
+pub item_ran : (words : List (List ℕ)) (files : Files) (state : State) (script : Script) (planned : List Operand) (bound : Bound) (bytes : List ℕ) (item : Item) → Stands files state
+    → Says files (word_at words 1) 1 script_file script → AreBound script words files planned → length planned ≡ length (bindings_of words)
+    → IsRunOf (run_of script (bound_names words) planned bound) bytes → ran words state (state (word_at words 1)) ≡ Some item → IsItem item bytes
+item_ran words files state script planned bound bytes item stands says are_bound count made is =
     let r = ran_is words state (state (word_at words 1)) item is in
-    let both : Ok p.script ≡ Ok r.script =
-    sym p.script_is ∙ ap (taken_script 1) (text_at files state (word_at words 1) r.bytes stands r.source_is) ∙ ap script_or_fault r.script_is in
-    let same : r.script ≡ p.script = cc in
+    let both : Ok script ≡ Ok r.script =
+    sym (says_taken says) ∙ ap (taken script_file 1) (text_at files state (word_at words 1) r.bytes stands r.source_is) ∙ ap (or_refused BadScript) r.script_is in
+    let same : r.script ≡ script = cc in
     let given = subst (λ (s : Script). all_given (map (λ input. values_given r.owner s.set input.kind (item_bound words state input)) s.inputs) ≡ Some r.lists) same r.given in
-    let inputs = are_sealed words files state p.script p.operands r.owner r.lists stands made.sound p.taken given in
-    let item_is : item ≡ sealed r.owner (value_of p.script r.lists) = r.item_is ∙ ap (λ (s : Script). sealed r.owner (value_of s r.lists)) same in
+    let inputs = are_sealed words files state script planned r.owner r.lists stands made.sound are_bound count given in
+    let item_is : item ≡ sealed r.owner (value_of script r.lists) = r.item_is ∙ ap (λ (s : Script). sealed r.owner (value_of s r.lists)) same in
     subst (λ (i : Item). IsItem i bytes) (sym item_is) (made.is.content, (made.is.is_file, made.right r.owner r.lists inputs))

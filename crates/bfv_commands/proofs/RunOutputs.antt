@@ -1,5 +1,5 @@
 -- From what was read of bound files to the cipher that `run` writes.
-use Rattle.std.proofs.Common.{◌≡◌, ◌⊎◌, inl, inr, ⊎_elim, ℕ, ◌+◌, ◌*◌, ◌<◌, ◌≤◌, zero, suc, All, List, [], ◌∷◌, ◌++◌, length, take, get_or, refl, sym, ◌∙◌, ap, ap₂, subst, arith}
+use Rattle.std.proofs.Common.{◌≡◌, ◌⊎◌, inl, inr, ⊎_elim, ℕ, ◌+◌, ◌-◌, ◌*◌, ◌<◌, ◌≤◌, zero, suc, All, List, [], ◌∷◌, ◌++◌, length, take, get_or, refl, sym, ◌∙◌, ap, ap₂, subst, arith}
 use Rattle.std.specs.Prelude.{Bool, true, false, cond, filter, is_none, slice_get, slice_index, slice_index_or, unwrap_or, Option, Some, None, Ok, Err, if◌then◌else◌, IsTrue}
 use Rattle.std.specs.Option.{option_or}
 use Rattle.std.specs.Str.{bytes_eq}
@@ -32,22 +32,21 @@ use Rattle.noise_check.specs.declared.verdict.Verdict.TheVariants as verdict
 use Rattle.noise_check.specs.Numbers.{numbers, AllCanonical}
 use Rattle.file_model.specs.declared.head.Head.{Head}
 use Rattle.cipher_files.specs.Contents.{part_words}
-use Rattle.file_model.specs.Heads.{HeadKeepsRules, content_with, wants}
+use Rattle.file_model.specs.Heads.{IsHeadOf, content_with, wants}
 use Rattle.file_model.specs.declared.head.Wanted.TheVariants as wanted
 use Rattle.command_words.specs.Form.{binding_file}
 use Rattle.command_words.specs.Line.{word_at}
 use Rattle.command_words.specs.declared.status.Status.{Status}
 use Rattle.command_words.specs.declared.status.Status.TheVariants.{KeyMismatch}
 use Rattle.command_model.specs.Bindings as bindings
-use Rattle.command_model.specs.Bindings.{Run, bound_cipher, bound_values, no_content, content_of, operand_of, bound_names, place_bound, first_key_id, ciphers_of, plains_of}
+use Rattle.command_model.specs.Bindings.{bound_cipher, bound_values, no_content, bound_names, place_bound, first_key_id, plains_of}
 use Rattle.command_model.specs.Plain.{Owner}
-use Rattle.command_model.specs.Plan.{running, accepted, accepted_or_noisy, run_or_noisy, bound_at, mismatch, set_refusal, parts_refusal, key_refusal, first_refusal, stated_bounds}
-use Rattle.run_operands.specs.BoundFiles.{AreHeld, AreOperands, FitsKind, MayBeBound}
-use Rattle.command_stages.specs.Stages.{AreSealed}
+use Rattle.command_model.specs.Reading.{accepted, done}
+use Rattle.command_model.specs.Plan.{judged, bound_at, mismatch, of_cipher, other_set, other_parts, other_key, first_refusal, stated_bounds}
+use Rattle.run_operands.specs.BoundFiles.{AreHeld, AreSeen, AreStated, FitsKind, MayBeBound}
 use Rattle.bfv_commands.specs.Filled.{AreListed, IsListed, values_listed}
 use Rattle.run_operands.specs.Ordered.{ArePlainValues, CanRunOn}
-use Rattle.bfv_commands.specs.RunStages.{AreOfKey, LeavesRoom, bounds_of, run_head, run_with}
-use Rattle.command_stages.specs.Stages.{IsRunOf, Wrote}
+use Rattle.bfv_commands.specs.RunStages.{AreOfKey, AreSealed, IsRunOf, LeavesRoom, bounds_of, run_head, run_with}
 use Rattle.run_operands.specs.declared.bound_files.BoundCipher.{BoundCipher}
 use Rattle.run_operands.specs.declared.bound_files.Operand.{Operand}
 use Rattle.run_operands.specs.declared.bound_files.Operand.TheVariants.{Cipher, Values}
@@ -56,50 +55,29 @@ use Rattle.run_operands.proofs.InOrder.{input_bound, place_is}
 use Rattle.bfv_commands.proofs.AcceptedRuns.{stated_exponent}
 use Rattle.bfv_commands.proofs.OutputParts.{IsTwoOrThree, output_parts}
 use Rattle.bfv_commands.proofs.Executing.{some_cipher, output_sealed}
-use Rattle.command_stages.proofs.Running.{wrote_file}
 
 -- ---- the verdict
 -- a bound that is accepted is that of the output
-pub accepted_is : (script : Script) (v : Verdict) (bound : Bound) → accepted_or_noisy script v ≡ Ok (accepted bound)
+pub accepted_is : (script : Script) (v : Verdict) (bound : Bound) → judged script v accepted ≡ done (accepted bound)
     → (bounds : List Bound) × ((v ≡ verdict.Accepted bounds) × (bound_at bounds script.output ≡ bound))
 accepted_is script (verdict.Accepted bounds) bound is = (bounds, (refl, cc))
 accepted_is script (verdict.TooNoisy line most limit) bound is = absurd (cc)
 
--- a script that is too noisy isn't run
-pub noisy_is : (script : Script) (names : List (List ℕ)) (operands : List bindings.Operand) (v : Verdict) (status : Status) → accepted_or_noisy script v ≡ Err status
-    → run_or_noisy script names operands v ≡ Err status
-noisy_is script names operands (verdict.Accepted bounds) status is = absurd (cc)
-noisy_is script names operands (verdict.TooNoisy line bound limit) status is = let same : _ ≡ status = cc in ap Err same
-
--- an accepted script is run, and the head of its output states the key id and the bound
-pub run_is : (script : Script) (names : List (List ℕ)) (operands : List bindings.Operand) (v : Verdict) (head : Head) → head.id ≡ first_key_id operands
-    → accepted_or_noisy script v ≡ Ok (accepted head.bound)
-    → run_or_noisy script names operands v ≡ Ok (running (run_with script (ciphers_of script names operands) (plains_of script names operands) head))
-run_is script names operands v head of_key is =
-    let found = accepted_is script v head.bound is in
-    ap (run_or_noisy script names operands) found.1.0
-    ∙ ap (λ (bound : Bound). Ok (running (with (first_key_id operands) bound))) found.1.1
-    ∙ ap (λ (id : List ℕ). Ok (running (with id head.bound))) (sym of_key)
-  where
-    with : List ℕ → Bound → Run
-    with id bound = record { script = script; ciphers = ciphers_of script names operands; plains = plains_of script names operands; key_id = id; bound = bound }
-
 -- ---- the bounds that are stated
-pub stated_of_held : (words : List (List ℕ)) (files : Files) (ciphers : List BoundCipher) (held : List FileContent) → AreHeld words files ciphers held
-    → stated_bounds held ≡ numbers (bounds_of ciphers)
-stated_of_held words files ciphers held are =
-    let left = length-map held (λ content. bound_value content.mantissa content.exponent) in
+-- heads state the bounds of their contents
+pub stated_of_heads : (ciphers : List BoundCipher) (contents : List FileContent) → length ciphers ≡ length contents
+    → ((r : ℕ) (cipher : BoundCipher) → slice_get ciphers r ≡ Some cipher → IsHeadOf cipher.head (slice_index_or contents r no_content))
+    → stated_bounds contents ≡ numbers (bounds_of ciphers)
+stated_of_heads ciphers contents count each =
+    let left = length-map contents (λ content. bound_value content.mantissa content.exponent) in
     let right = length-map (bounds_of ciphers) (λ bound. bound_value bound.m bound.e) in
     let between = length-map ciphers (λ cipher. cipher.head.bound) in
-    let count = are.count in
-    ext_get_or 0 (stated_bounds held) (numbers (bounds_of ciphers)) (omega arith) (λ r below.
-    let inside : r < length held = omega arith in
+    ext_get_or 0 (stated_bounds contents) (numbers (bounds_of ciphers)) (omega arith) (λ r below.
+    let inside : r < length contents = omega arith in
     let there = element_there ciphers r (omega arith) in
-    let at = are.each r there.0 there.1 in
-    let stated = at.head_is.states in
     let cipher_is : get_or ciphers r there.0 ≡ there.0 = get_or_from_slice_get ciphers r there.0 there.0 there.1 in
-    get_or-map (λ content. bound_value content.mantissa content.exponent) held r no_content 0 inside
-    ∙ ap (λ (content : FileContent). bound_value content.mantissa content.exponent) stated
+    get_or-map (λ content. bound_value content.mantissa content.exponent) contents r no_content 0 inside
+    ∙ ap (λ (content : FileContent). bound_value content.mantissa content.exponent) (each r there.0 there.1).states
     ∙ ap (λ (cipher : BoundCipher). bound_value cipher.head.bound.m cipher.head.bound.e) (sym cipher_is)
     ∙ sym (
     get_or-map (λ bound. bound_value bound.m bound.e) (bounds_of ciphers) r there.0.head.bound 0 (omega arith)
@@ -111,47 +89,37 @@ no_first : {A : Type 0} (first rest : Option A) → option_or first rest ≡ Non
 no_first None rest is = (refl, is)
 no_first (Some refusal) rest is = absurd (cc)
 
--- the content of no file, or one of this key id
-abbrev IsKeyed : List ℕ → FileContent → Type 0
-IsKeyed id content = (content.key_id ≡ id) ⊎ (content ≡ no_content)
-
-keyed_one : (id : List ℕ) (word : ℕ) (operand : bindings.Operand) → key_refusal id word operand ≡ None → IsKeyed id (content_of operand)
-keyed_one id word (bound_cipher content) is = of_test (bytes_eq content.key_id id) (bytes_eq-Decides content.key_id id).0 is
+-- a cipher that isn't refused for its key id is of this one
+keyed_one : (id : List ℕ) (word : ℕ) (operand : bindings.Operand) (content : FileContent) → of_cipher (other_key id) word operand ≡ None → operand ≡ bound_cipher content
+    → content.key_id ≡ id
+keyed_one id word (bound_cipher other) content none is =
+    let same : other ≡ content = cc in
+    subst (λ (c : FileContent). c.key_id ≡ id) same (of_test (bytes_eq other.key_id id) (bytes_eq-Decides other.key_id id).0 none)
   where
-    of_test : (test : Bool) → (test ≡ true → content.key_id ≡ id) → (if test then None else Some (KeyMismatch word content.key_id id)) ≡ None → IsKeyed id content
-    of_test true same is = inl (same refl)
+    of_test : (test : Bool) → (test ≡ true → other.key_id ≡ id) → (if test then None else Some (KeyMismatch word other.key_id id)) ≡ None → other.key_id ≡ id
+    of_test true same is = same refl
     of_test false same is = absurd (cc)
-keyed_one id word (bound_values listed) is = inr refl
+keyed_one id word (bound_values listed) content none is = absurd (cc)
 
-keyed_at : (id : List ℕ) (word : ℕ) (operands : List bindings.Operand) → first_refusal (key_refusal id) word operands ≡ None → (p : ℕ)
-    → IsKeyed id (content_of (slice_index_or operands p (bound_values [])))
-keyed_at id word [] is p = inr refl
-keyed_at id word (operand ∷ operands) is zero = keyed_one id word operand (no_first (key_refusal id word operand) (first_refusal (key_refusal id) (word + 1) operands) is).0
-keyed_at id word (operand ∷ operands) is (suc p) =
-    keyed_at id (word + 1) operands (no_first (key_refusal id word operand) (first_refusal (key_refusal id) (word + 1) operands) is).1 p
-
--- the content of no file is that of none
-no_file : (bytes : List ℕ) → IsFile bytes no_content → ⊥
-no_file bytes is = let parts : parts_fit no_content.kind no_content.parts ≡ true = is.rules.parts in cc
+keyed_at : (id : List ℕ) (word : ℕ) (operands : List bindings.Operand) (content : FileContent) → first_refusal (of_cipher (other_key id)) word operands ≡ None → (p : ℕ)
+    → slice_index_or operands p (bound_values []) ≡ bound_cipher content → content.key_id ≡ id
+keyed_at id word [] content none p is = absurd (cc)
+keyed_at id word (operand ∷ operands) content none zero is =
+    keyed_one id word operand content (no_first (of_cipher (other_key id) word operand) (first_refusal (of_cipher (other_key id)) (word + 1) operands) none).0 is
+keyed_at id word (operand ∷ operands) content none (suc p) is =
+    keyed_at id (word + 1) operands content (no_first (of_cipher (other_key id) word operand) (first_refusal (of_cipher (other_key id)) (word + 1) operands) none).1 p is
 
 -- ciphers that match are of one key id
-pub of_one_key : (words : List (List ℕ)) (files : Files) (script : Script) (ciphers : List BoundCipher) (operands : List bindings.Operand) → mismatch script operands ≡ None
-    → AreHeld words files ciphers (ciphers_of script (bound_names words) operands) → AreOfKey (ciphers_of script (bound_names words) operands) (first_key_id operands)
-of_one_key words files script ciphers operands matched held = λ r below.
-    let names = bound_names words in
-    let id = first_key_id operands in
-    let behind_sets = no_first (first_refusal (set_refusal script.set) 3 operands)
-    (option_or (first_refusal parts_refusal 3 operands) (first_refusal (key_refusal id) 3 operands)) matched in
-    let keys = no_first (first_refusal parts_refusal 3 operands) (first_refusal (key_refusal id) 3 operands) behind_sets.1 in
-    let there = element_there ciphers r (let count = held.count in omega arith) in
-    let at = held.each r there.0 there.1 in
-    let count = length-map (cipher_inputs script.inputs) (λ input. content_of (operand_of names operands input)) in
-    let first = element_there (cipher_inputs script.inputs) r (omega arith) in
-    let made = get_or-map (λ input. content_of (operand_of names operands input)) (cipher_inputs script.inputs) r first.0 no_content (omega arith) in
-    let x = get_or (cipher_inputs script.inputs) r first.0 in
-    ⊎_elim (λ keyed. ap (λ (content : FileContent). content.key_id) made ∙ keyed)
-    (λ none. absurd (no_file (contents files (binding_file (word_at words there.0.word))) (subst (IsFile (contents files (binding_file (word_at words there.0.word)))) (made ∙ none) at.is_file)))
-    (keyed_at id 3 operands keys.1 (unwrap_or (place_bound names x.name) 0))
+pub of_one_key : (script : Script) (planned : List bindings.Operand) (ciphers : List BoundCipher) (contents : List FileContent) → mismatch script planned ≡ None
+    → AreStated planned ciphers contents → AreOfKey contents (first_key_id planned)
+of_one_key script planned ciphers contents matched stated = λ r below.
+    let id = first_key_id planned in
+    let sets = first_refusal (of_cipher (other_set script.set)) 3 planned in
+    let parts = first_refusal (of_cipher other_parts) 3 planned in
+    let keys = first_refusal (of_cipher (other_key id)) 3 planned in
+    let there = element_there ciphers r (let count = stated.count in omega arith) in
+    keyed_at id 3 planned (slice_index_or contents r no_content) (no_first parts keys (no_first sets (option_or parts keys) matched).1).1 (there.0.word - 3)
+    (stated.each r there.0 there.1).named
 
 -- ---- lists by their places
 -- what holds of each element that is there
@@ -171,14 +139,14 @@ listed_there script words operands places each p below =
     subst (λ (found : Option Operand). IsListed script.set found) (sym (ap (slice_get operands) place_is ∙ at.there)) at.values
 
 -- and they are those that are bound to the plain inputs
-pub listed_values : (script : Script) (words : List (List ℕ)) (files : Files) (operands : List Operand) (planned : List bindings.Operand) (places : List ℕ)
-    → AreOperands words files operands planned → ((p place : ℕ) → slice_get places p ≡ Some place → ArePlainValues script words operands p place)
+pub listed_values : (script : Script) (words : List (List ℕ)) (operands : List Operand) (planned : List bindings.Operand) (places : List ℕ) → AreSeen operands planned
+    → ((p place : ℕ) → slice_get places p ≡ Some place → ArePlainValues script words operands p place)
     → AreListed operands places (plains_of script (bound_names words) planned)
-listed_values script words files operands planned places read each = λ p below.
+listed_values script words operands planned places seen each = λ p below.
     let there = element_there places p below in
     let at = each p there.0 there.1 in
     let place_is : slice_index places p ≡ there.0 = get_or_from_slice_get places p there.0 0 there.1 in
-    at.is files planned read ∙ sym (ap values_listed (ap (slice_get operands) place_is ∙ at.there))
+    at.is planned seen ∙ sym (ap values_listed (ap (slice_get operands) place_is ∙ at.there))
 
 -- ---- a script has a cipher input
 -- an element of a list that passes a test
@@ -235,18 +203,9 @@ bounds_more ciphers i d bounds inside so_far =
     ap₂ (λ (before : List Bound) (bound : Bound). before ++ bound ∷ []) so_far (sym (get_or-map (λ cipher. cipher.head.bound) ciphers i d d.head.bound inside))
     ∙ sym (take_more (bounds_of ciphers) i d.head.bound (omega (arith, inside, length-map ciphers (λ cipher. cipher.head.bound))))
 
--- a head that states what is determined of the output keeps the rules
-pub run_head_rules : (script : Script) (set : SetName) (parts words : ℕ) (id : List ℕ) (bound : Bound) → IsSound script → set ≡ script.set
-    → parts ≡ (shape_at (shapes_of script.inputs script.steps) script.output).parts → words ≡ parts * length (data_of set) * degree_of set
-    → IsTrue (bound_fits kind.Cipher script.set bound.m bound.e)
-    → HeadKeepsRules (record { kind = kind.Cipher; set = set; parts = parts; element = 0; id = id; bound = bound; words = words })
-run_head_rules script set parts words id bound sound set_is parts_is words_is fits = record {
-  set = refl;
-  parts = two_or_three parts (subst IsTwoOrThree (sym parts_is) (output_parts script sound));
-  element = refl;
-  bound = subst (λ (z : SetName). IsTrue (bound_fits kind.Cipher z bound.m bound.e)) (sym set_is) fits;
-  count = words_is;
-}
+-- the parts of a script's output are those of a cipher
+pub output_parts_fit : (script : Script) (parts : ℕ) → IsSound script → parts ≡ (shape_at (shapes_of script.inputs script.steps) script.output).parts → parts_fit kind.Cipher parts ≡ true
+output_parts_fit script parts sound is = two_or_three parts (subst IsTwoOrThree (sym is) (output_parts script sound))
 
 -- a head that is of its own id and bound
 pub own_head : (script : Script) (id : List ℕ) (bound : Bound) (head : Head) → head ≡ run_head script id bound → head ≡ run_head script head.id head.bound
@@ -285,49 +244,59 @@ stated_small set count ciphers each r d below =
     stated_exponent set bound.m bound.e (stated_bound set count ciphers each r d below)
 
 -- ---- the file of the output
--- the cipher that a run gives was written
-pub wrote_run : (n count : ℕ) (words : List (List ℕ)) (name : List ℕ) (told after : Option Files) (before : Files) (script : Script) (ciphers : List BoundCipher) (held : List FileContent)
-    (plains : List (List ℕ)) (head : Head) (cipher : CipherValue) → name ≡ word_at words 2 → told ≡ Some before → n ≡ degree_of script.set → IsSound script
+-- the file of the cipher that a run gives
+pub run_made : (n count : ℕ) (words : List (List ℕ)) (files : Files) (script : Script) (ciphers : List BoundCipher) (contents : List FileContent) (plains : List (List ℕ))
+    (head : Head) (cipher : CipherValue) → n ≡ degree_of script.set → IsSound script
     → head ≡ run_head script head.id head.bound → LeavesRoom script (numbers (bounds_of ciphers)) head.bound → All (MayBeBound script.set count) ciphers
-    → length ciphers ≡ length (cipher_inputs script.inputs) → AreHeld words before ciphers held → AreOfKey held head.id
+    → length ciphers ≡ length (cipher_inputs script.inputs) → stated_bounds contents ≡ numbers (bounds_of ciphers) → AreHeld words files ciphers contents → AreOfKey contents head.id
     → IsCipherOf (whole_context script.set) cipher → IsCipher n cipher.set cipher.room cipher.level cipher.parts cipher.rows
     → cipher.parts ≡ (shape_at (shapes_of script.inputs script.steps) script.output).parts → KeepsRules (content_with head (part_words n head.set head.parts cipher.rows))
-    → ((owner : Owner) (lists : List (List ℕ)) → AreSealed owner script held plains lists → IsQuiet (whole_context script.set) script (stated_bounds held)
-    → Carries n (whole_context script.set) (secret_polynomial owner.secret) cipher (value_of script lists) (slice_index (exact_bounds script (stated_bounds held)) script.output))
-    → after ≡ with_file told name (file_text (content_with head (part_words n head.set head.parts cipher.rows)))
-    → Wrote {T = Unit {0}} (word_at words 2) before after (IsRunOf (run_with script held plains head)) (Ok tt)
-wrote_run n count words name told after before script ciphers held plains head cipher named told_is degree sound head_is room bound_all same_count are keyed of_context kept parts rules carries after_is =
-    let listed = part_words n head.set head.parts cipher.rows in
-    let content = content_with head listed in
-    let stated = stated_of_held words before ciphers held are in
-    let quiet = subst (λ (bounds : List ℕ). IsQuiet (whole_context script.set) script bounds) (sym stated) room.quiet in
-    let larger = subst (λ (bounds : List ℕ). slice_index (exact_bounds script bounds) script.output ≤ bound_value head.bound.m head.bound.e) (sym stated) room.above in
-    let set_is : head.set ≡ script.set = ap (λ (h : Head). h.set) head_is in
-    let some = some_cipher script sound in
-    let there = element_there ciphers 0 (omega (arith, same_count)) in
-    let first = are.each 0 there.0 there.1 in
-    let first_bound = subst (MayBeBound script.set count) (get_or_from_slice_get ciphers 0 there.0 there.0 there.1) (bound_all 0 there.0 (omega (arith, same_count))) in
-    let first_set : (slice_index_or held 0 no_content).set ≡ script.set = ap (λ (c : FileContent). c.set) first.head_is.states ∙ first_bound.of_set in
-    let made : IsRunOf (run_with script held plains head) (file_text content) = record {
-      is = record {
-        content = content;
-        is_file = record { text = refl; rules = rules };
-        states = ap (λ (h : Head). content_with h listed) head_is;
-      };
-      sound = sound;
-      right = λ owner lists sealed.
-          let one = sealed.ciphers 0 some in
-          output_sealed n script.set owner (value_of script lists) (slice_index (exact_bounds script (stated_bounds held)) script.output) cipher content degree of_context kept
-          (carries owner lists sealed quiet)
-          record {
-            is_kind = ap (λ (h : Head). h.kind) head_is;
-            of_set = set_is ∙ sym first_set ∙ one.belongs.of_set;
-            of_key = sym (keyed 0 (let both = are.count in omega (arith, same_count))) ∙ one.belongs.of_key;
-            ternary = one.belongs.ternary;
-          }
-          set_is
-          (ap (λ (set : SetName). part_words n set head.parts cipher.rows) set_is ∙ ap (λ (parts : ℕ). part_words n script.set parts cipher.rows) (ap (λ (h : Head). h.parts) head_is ∙ sym parts))
-          larger;
-    } in
-    wrote_file (word_at words 2) told after before (IsRunOf (run_with script held plains head)) (file_text content) told_is
-    (after_is ∙ ap (λ (n : List ℕ). with_file told n (file_text content)) named) made
+    → ((owner : Owner) (lists : List (List ℕ)) → AreSealed owner script contents plains lists → IsQuiet (whole_context script.set) script (stated_bounds contents)
+    → Carries n (whole_context script.set) (secret_polynomial owner.secret) cipher (value_of script lists) (slice_index (exact_bounds script (stated_bounds contents)) script.output))
+    → IsRunOf (run_with script contents plains head) (file_text (content_with head (part_words n head.set head.parts cipher.rows)))
+run_made n count words files script ciphers contents plains head cipher degree sound head_is room bound_all same_count stated held keyed of_context kept parts rules carries = record {
+  is = record {
+    content = content;
+    is_file = record { text = refl; rules = rules };
+    states = ap (λ (h : Head). content_with h listed) head_is;
+  };
+  sound = sound;
+  right = λ owner lists sealed.
+      let one = sealed.ciphers 0 some in
+      output_sealed n script.set owner (value_of script lists) (slice_index (exact_bounds script (stated_bounds contents)) script.output) cipher content degree of_context kept
+      (carries owner lists sealed quiet)
+      record {
+        is_kind = ap (λ (h : Head). h.kind) head_is;
+        of_set = set_is ∙ sym first_set ∙ one.belongs.of_set;
+        of_key = sym (keyed 0 (let both = held.count in omega (arith, same_count, some))) ∙ one.belongs.of_key;
+        ternary = one.belongs.ternary;
+      }
+      set_is
+      (ap (λ (set : SetName). part_words n set head.parts cipher.rows) set_is ∙ ap (λ (parts : ℕ). part_words n script.set parts cipher.rows) (ap (λ (h : Head). h.parts) head_is ∙ sym parts))
+      larger;
+}
+  where
+    listed : List ℕ
+    listed = part_words n head.set head.parts cipher.rows
+
+    content : FileContent
+    content = content_with head listed
+
+    quiet : IsQuiet (whole_context script.set) script (stated_bounds contents)
+    quiet = subst (λ (bounds : List ℕ). IsQuiet (whole_context script.set) script bounds) (sym stated) room.quiet
+
+    larger : slice_index (exact_bounds script (stated_bounds contents)) script.output ≤ bound_value head.bound.m head.bound.e
+    larger = subst (λ (bounds : List ℕ). slice_index (exact_bounds script bounds) script.output ≤ bound_value head.bound.m head.bound.e) (sym stated) room.above
+
+    set_is : head.set ≡ script.set
+    set_is = ap (λ (h : Head). h.set) head_is
+
+    some : 0 < length (cipher_inputs script.inputs)
+    some = some_cipher script sound
+
+    first_set : (slice_index_or contents 0 no_content).set ≡ script.set
+    first_set =
+        let there = element_there ciphers 0 (omega (arith, same_count, some)) in
+        let first = held.each 0 there.0 there.1 in
+        let first_bound = subst (MayBeBound script.set count) (get_or_from_slice_get ciphers 0 there.0 there.0 there.1) (bound_all 0 there.0 (omega (arith, same_count, some))) in
+        ap (λ (c : FileContent). c.set) first.head_is.states ∙ first_bound.of_set

@@ -1,39 +1,71 @@
 -- What the stages of `run` say of their results.
-use Rattle.std.specs.Prelude.{◌≡◌, ◌⊎◌, ℕ, ◌*◌, ◌<◌, ◌≤◌, List, length, map, slice_index, slice_index_or, Ok, Err, Some, None, IsTrue}
-use Rattle.outer_io.specs.Store.{Files}
+use Rattle.std.specs.Prelude.{◌≡◌, ℕ, ◌+◌, ◌*◌, ◌<◌, ◌≤◌, List, [], length, map, slice_get, slice_index, slice_index_or, Some, None, IsTrue, Result, IfOk, IfErr}
+use Rattle.std.specs.Option.{ForSome}
+use Rattle.outer_io.specs.Store.{StoreState}
 use Rattle.set_table.specs.Sets.{degree_of, data_of}
 use Rattle.bound_num.specs.declared.Bound.{Bound}
 use Rattle.bound_num.specs.Bound.{bound_value}
 use Rattle.file_model.specs.declared.file_kind.FileKind.TheVariants as kind
 use Rattle.file_model.specs.FileText.{FileContent, bound_fits}
 use Rattle.file_model.specs.declared.head.Head.{Head}
-use Rattle.script_text.specs.Scripts.{Script, shape_at, shapes_of}
+use Rattle.script_text.specs.Scripts.{Script, IsSound, cipher_inputs, plain_inputs, is_cipher, is_plain, shape_at, shapes_of}
+use Rattle.script_text.specs.Value.{value_of, lists_of}
 use Rattle.noise_check.specs.ExactBounds.{exact_bounds}
+use Rattle.noise_check.specs.Verdicts.{verdict_of}
 use Rattle.script_run.specs.Premises.{IsQuiet}
 use Rattle.script_run.specs.Workspaces.{whole_context}
-use Rattle.command_words.specs.declared.form.Form.TheVariants as form
+use Rattle.command_words.specs.Line.{word_at}
 use Rattle.command_words.specs.declared.status.Status.{Status}
-use Rattle.command_words.specs.declared.status.Status.TheVariants.{ReadFault}
 use Rattle.command_model.specs.Bindings as bindings
-use Rattle.command_model.specs.Bindings.{Run, no_content}
-use Rattle.command_model.specs.Plan.{plan_of_run, operands_from, mismatch, IsReached}
-use Rattle.command_model.specs.Answers.{IsFault}
-use Rattle.run_operands.specs.BoundFiles.{AreOperands}
+use Rattle.command_model.specs.Bindings.{Run, no_content, bound_values, bindings_of, bound_names, ciphers_of}
+use Rattle.command_model.specs.Reading.{script_file, running}
+use Rattle.command_model.specs.Plan.{IsRunFile, reading_of_bindings, run_on, run_of, mismatch, judged, stated_bounds}
+use Rattle.command_model.specs.Plain.{Owner, IsSealed}
+use Rattle.command_model.specs.Commanded.{Stopped}
+use Rattle.command_stages.specs.Stages.{Says, Way}
+use Rattle.run_operands.specs.BoundFiles.{AreSeen, AreBound}
+use Rattle.run_operands.specs.BoundReads.{MayBeReread}
 use Rattle.run_operands.specs.declared.bound_files.BoundCipher.{BoundCipher}
 use Rattle.run_operands.specs.declared.bound_files.Operand.{Operand}
 
--- a refusal of `run` before it writes is the planned one, or an answer that no word and no file brings about; a file that can't be read
--- was reached
-pub record RefusedInRun (words : List (List ℕ)) (files : Files) (status : Status) : Type 0 where
-  pub why : IsFault status ⊎ (plan_of_run words files ≡ Err status)
-  pub reached : (word : ℕ) → status ≡ ReadFault word → IsReached (Some form.Run) words files word
+-- The inputs of a script, of which each has a list in order of declaration: the contents of the cipher inputs seal theirs for this owner,
+-- and the values of the plain inputs are theirs.
+pub record AreSealed (owner : Owner) (script : Script) (contents : List FileContent) (plains lists : List (List ℕ)) : Type 0 where
+  pub listed : length lists ≡ length script.inputs
+  pub ciphers : (r : ℕ) → r < length (cipher_inputs script.inputs)
+      → IsSealed owner (slice_index_or (lists_of is_cipher script.inputs lists) r []) (slice_index_or contents r no_content)
+  pub values : (p : ℕ) → p < length (plain_inputs script.inputs)
+      → slice_index_or plains p [] ≡ slice_index_or (lists_of is_plain script.inputs lists) p []
 
--- the operands of a script's bindings were read as planned, and match
-pub record AreMatched (words : List (List ℕ)) (files : Files) (script : Script) (operands : List Operand) : Type 0 where
+-- the bytes are the file of the cipher that a run gives: as determined, and where the inputs seal values for an owner, a cipher that
+-- seals the script's value on these for the owner
+pub record IsRunOf (run : Run) (bytes : List ℕ) : Type 0 where
+  pub is : IsRunFile run bytes
+  pub sound : IsSound run.script
+  pub right : (owner : Owner) (lists : List (List ℕ)) → AreSealed owner run.script run.ciphers run.plains lists → IsSealed owner (value_of run.script lists) is.content
+
+-- a script was read that is linear and whose inputs are each bound once, on the way to the files of its bindings
+pub record ScriptCame (words : List (List ℕ)) (old new : StoreState) (result : Result Script Status) : Type 0 where
+  pub ok : IfOk result (λ script. ForSome old.files (λ files. Says files (word_at words 1) 1 script_file script)
+      × Way words (reading_of_bindings script 3 (bindings_of words) (run_on script (bound_names words))) old new)
+  pub err : IfErr result (Stopped words old new)
+
+-- the operands of a script's bindings were read, and match, on the way to the verdict on the bounds that they state
+pub record AreMatched (script : Script) (words : List (List ℕ)) (begun now : StoreState) (operands : List Operand) : Type 0 where
   pub planned : List bindings.Operand
-  pub taken : operands_from script files 3 (bindings.bindings_of words) ≡ Ok planned
-  pub read : AreOperands words files operands planned
+  pub seen : AreSeen operands planned
+  pub bound : ForSome begun.files (λ files. AreBound script words files planned)
+  pub again : (p : ℕ) → p < length planned → MayBeReread words begun (3 + p) (slice_index_or planned p (bound_values []))
   pub matched : mismatch script planned ≡ None
+  pub way : Way words (judged script (verdict_of script (stated_bounds (ciphers_of script (bound_names words) planned)))
+      (λ bound. running (run_of script (bound_names words) planned bound))) begun now
+
+-- the word of a binding is that of one of these ciphers
+pub record IsWordOf (ciphers : List BoundCipher) (word : ℕ) : Type 0 where
+  pub place : ℕ
+  pub cipher : BoundCipher
+  pub there : slice_get ciphers place ≡ Some cipher
+  pub is : cipher.word ≡ word
 
 -- the bounds that ciphers state
 abbrev pub bounds_of : List BoundCipher → List Bound

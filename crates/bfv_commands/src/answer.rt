@@ -1,15 +1,15 @@
 // The top call: from words to a status.
-ghost use Rattle.std.specs.Prelude.{◌≡◌, ◌≢◌, ◌⊎◌, ◌<◌, ◌≤◌, length, map, Option, Some, None, IsSome, OnErr, IfOk, IfErr};
+ghost use Rattle.std.specs.Prelude.{◌≡◌, ◌≢◌, ◌⊎◌, ◌<◌, ◌≤◌, length, map, Option, Some, None, IsSome};
 ghost use Rattle.std.specs.Option.{ForSome, option_map};
 ghost use Rattle.std.specs.String.{string_bytes};
 ghost use Rattle.outer_io.specs.Store.{Files};
-ghost use Rattle.command_words.specs.Form.{form_of, IsOperand, HasCount};
+ghost use Rattle.command_words.specs.Form.{form_of, HasCount};
 ghost use Rattle.command_words.specs.Status.{parts_of};
 ghost use Rattle.command_model.specs.Plan as plan;
-ghost use Rattle.command_model.specs.Answers.{Told, NoFaultRose, IsComplete, Cause, Printed};
-ghost use Rattle.command_model.specs.Batches.{BatchAnswered, NoCountFell};
-ghost use Rattle.command_model.specs.Plain.{State, Stands, step};
-ghost use Rattle.command_stages.specs.Stages.{Caused, IsLeftToPut, Ran, Announced};
+ghost use Rattle.command_model.specs.Answers.{Printed};
+ghost use Rattle.command_model.specs.Batches.{Answered, BatchAnswered};
+ghost use Rattle.command_model.specs.Commanded.{Commanded};
+ghost use Rattle.command_stages.specs.Stages.{Announced};
 
 use crate::batch::batch;
 use crate::run_script::run_script;
@@ -28,6 +28,20 @@ use text_commands::check::check;
 /// and the file OUT is written to it. What a command without a file OUT gives goes to the sink, and
 /// so does the line of an answer other than `Done`. A batch of commands answers as the first of them
 /// that isn't done.
+///
+/// Of a command other than a batch the contract says:
+///
+/// - `idle`, `counts`, `puts`: nothing is pending afterwards, and no count of failed calls falls.
+/// - `told`: where the store tells its files, only the file OUT may differ at `Done`, and it is as the
+///   words and the files determine it; at any other answer no file has changed. A refusal is the
+///   first one in the order of reading.
+/// - `complete`: where no call failed, the answer is what the words and the files lead to, or
+///   `Memory`.
+/// - `stands`: what the files stand for goes the way of the plain machine. This is the headline.
+/// - `cause`: what an answer owes to, whether the store tells its files or not.
+/// - `printed`: what was put.
+///
+/// A batch reads its text, and then runs the commands in order, each with the same promises.
 pub fn command<S: Store, O: Sink>(
     alloc: Global,
     words: &[String],
@@ -36,28 +50,9 @@ pub fn command<S: Store, O: Sink>(
 ) -> Status
     requires { (S.state store.old).pending ≡ None }
     ensures idle { (S.state store.new).pending ≡ None }
-    ensures counts { NoCountFell (S.state store.old) (S.state store.new) }
-    ensures puts { (O.state out.old).faults ≤ (O.state out.new).faults }
-
-    // what the files say of the answer of one command, and the answer of the files
-    ensures told { form_of (map string_bytes words.now) ≢ Some Form.Batch → ForSome (S.state store.old).files (λ files.
-        Told (map string_bytes words.now) files (S.state store.new).files result) }
-
-    // where no call failed, the answer is what the words and the files lead to
-    ensures complete { form_of (map string_bytes words.now) ≢ Some Form.Batch → ForSome (S.state store.old).files (λ files.
-        NoFaultRose (S.state store.old) (S.state store.new) (O.state out.old) (O.state out.new)
-        → IsComplete (plan.plan (map string_bytes words.now) files) result) }
-
-    // what the files stand for goes the way of the plain machine
-    ensures stands { form_of (map string_bytes words.now) ≢ Some Form.Batch → result ≡ Status.Done
-        → ForSome (S.state store.old).files (λ before. ForSome (S.state store.new).files (λ after.
-        (state : State) → Stands before state → Stands after (step (map string_bytes words.now) state))) }
-    ensures cause { form_of (map string_bytes words.now) ≢ Some Form.Batch
-        → Cause (map string_bytes words.now) (S.state store.old) (S.state store.new) (O.state out.old) (O.state out.new) result }
-    ensures printed { form_of (map string_bytes words.now) ≢ Some Form.Batch
-        → Printed (map string_bytes words.now) (S.state store.old).files (O.state out.old) (O.state out.new) result }
-
-    // and a batch answers as its commands do
+    ensures one { form_of (map string_bytes words.now) ≢ Some Form.Batch
+        → Answered (map string_bytes words.now) (record { store = S.state store.old; sink = O.state out.old })
+        (record { store = S.state store.new; sink = O.state out.new }) result }
     ensures batch { form_of (map string_bytes words.now) ≡ Some Form.Batch
         → BatchAnswered (map string_bytes words.now) (record { store = S.state store.old; sink = O.state out.old })
         (record { store = S.state store.new; sink = O.state out.new }) result }
@@ -77,24 +72,8 @@ pub fn single<S: Store, O: Sink>(
 ) -> Status
     requires one { form_of (map string_bytes words.now) ≢ Some Form.Batch }
     requires idle { (S.state store.old).pending ≡ None }
-    ensures idle { (S.state store.new).pending ≡ None }
-    ensures counts { NoCountFell (S.state store.old) (S.state store.new) }
-    ensures puts { (O.state out.old).faults ≤ (O.state out.new).faults }
-
-    // what the files say of the answer, and the answer of the files
-    ensures told { ForSome (S.state store.old).files (λ files.
-        Told (map string_bytes words.now) files (S.state store.new).files result) }
-
-    // where no call failed, the answer is what the words and the files lead to
-    ensures complete { ForSome (S.state store.old).files (λ files.
-        NoFaultRose (S.state store.old) (S.state store.new) (O.state out.old) (O.state out.new)
-        → IsComplete (plan.plan (map string_bytes words.now) files) result) }
-
-    // what the files stand for goes the way of the plain machine
-    ensures stands { result ≡ Status.Done → ForSome (S.state store.old).files (λ before. ForSome (S.state store.new).files (λ after.
-        (state : State) → Stands before state → Stands after (step (map string_bytes words.now) state))) }
-    ensures cause { Cause (map string_bytes words.now) (S.state store.old) (S.state store.new) (O.state out.old) (O.state out.new) result }
-    ensures printed { Printed (map string_bytes words.now) (S.state store.old).files (O.state out.old) (O.state out.new) result }
+    ensures { Answered (map string_bytes words.now) (record { store = S.state store.old; sink = O.state out.old })
+        (record { store = S.state store.new; sink = O.state out.new }) result }
 {
     match form_of(words) {
         Some(form) => match run(alloc, form, words, store) {
@@ -117,15 +96,7 @@ fn run<S: Store>(
     requires form { form_of (map string_bytes words.now) ≡ Some form }
     requires one { form ≢ Form.Batch }
     requires count { HasCount form (length words.now) }
-    requires idle { (S.state store.old).pending ≡ None }
-    ensures idle { (S.state store.new).pending ≡ None }
-    ensures counts { NoCountFell (S.state store.old) (S.state store.new) }
-    ensures told { ForSome (S.state store.old).files (λ files. Ran form (map string_bytes words.now) files (S.state store.new).files result) }
-    ensures line { IfOk result (λ left. IsLeftToPut (plan.out_name (Some form) (map string_bytes words.now)) (map string_bytes words.now)
-        (S.state store.old).files (option_map (λ v. v.items) left)) }
-    ensures unchanged { OnErr result ((S.state store.new).files ≡ (S.state store.old).files) }
-    ensures cause { IfErr result (λ s. Caused (IsOperand form (length (map string_bytes words.now))) (S.state store.old) (S.state store.new) s) }
-    ensures file { IfErr result (λ s. s ≡ Status.WriteFault → IsSome (plan.out_name (Some form) (map string_bytes words.now))) }
+    ensures { Commanded (map string_bytes words.now) (λ left. option_map (λ v. v.items) left) (S.state store.old) (S.state store.new) result }
 {
     match form {
         Form::Check => match check(alloc, words, store) {
@@ -152,12 +123,7 @@ fn write_out<S: Store>(
     requires form { form_of (map string_bytes words.now) ≡ Some form }
     requires count { HasCount form (length words.now) }
     requires out { IsSome (plan.out_name (Some form) (map string_bytes words.now)) }
-    requires idle { (S.state store.old).pending ≡ None }
-    ensures idle { (S.state store.new).pending ≡ None }
-    ensures counts { NoCountFell (S.state store.old) (S.state store.new) }
-    ensures told { ForSome (S.state store.old).files (λ files. Ran form (map string_bytes words.now) files (S.state store.new).files result) }
-    ensures unchanged { OnErr result ((S.state store.new).files ≡ (S.state store.old).files) }
-    ensures cause { IfErr result (λ s. Caused (IsOperand form (length (map string_bytes words.now))) (S.state store.old) (S.state store.new) s) }
+    ensures { Commanded (map string_bytes words.now) (λ _. None) (S.state store.old) (S.state store.new) result }
 {
     match form {
         Form::Secret => secret(alloc, words, store),

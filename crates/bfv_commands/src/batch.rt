@@ -1,23 +1,22 @@
 // The command `batch`: commands in order, up to the first that isn't done.
 ghost use Rattle.std.specs.Prelude.{◌≡◌, ◌≢◌, ◌⊎◌, length, map, Some, None, Ok, Err, IfOk, IfErr};
-ghost use Rattle.std.specs.Option.{ForSome};
 ghost use Rattle.std.specs.String.{string_bytes};
-ghost use Rattle.outer_io.specs.Store.{OnlyReads};
 ghost use Rattle.script_text.specs.declared.faults.ScriptPlace.{ScriptPlace};
 ghost use Rattle.batch_text.specs.Commands.{commands_of};
 ghost use Rattle.batch_text.specs.Reading.{texts};
 ghost use Rattle.command_words.specs.Form.{form_of};
+ghost use Rattle.command_words.specs.Line.{word_at};
 ghost use Rattle.command_words.specs.declared.form.Form.TheVariants as form;
-ghost use Rattle.command_model.specs.Plan as plan;
+ghost use Rattle.command_model.specs.Reading.{batch_file};
 ghost use Rattle.command_model.specs.Batches.{BatchAnswered};
+ghost use Rattle.command_stages.specs.Stages.{Took};
 ghost use Rattle.bfv_commands.specs.Batching.{InOrder, AreSingle};
-ghost use Rattle.command_stages.specs.Stages.{Planned, Caused};
 
 use crate::answer::{report, single};
 use batch_text::{MAX_BATCH_BYTES, read_commands};
-use command_stages::name_of;
+use command_stages::{name_of, unread};
 use command_words::Status;
-use outer_io::{Sink, Store, StoreFault, read_front};
+use outer_io::{Sink, Store, read_front};
 use script_text::ScriptFault;
 use std::alloc::Global;
 
@@ -50,18 +49,12 @@ fn read_batch<S: Store>(
     store: &mut S,
 ) -> Result<Vec<Vec<String>>, Status>
     requires count { length words.now ≡ 2 }
-    ensures keeps { OnlyReads (S.state store.old) (S.state store.new) }
-    ensures told { ForSome (S.state store.old).files (λ files.
-        Planned (plan.plan_of_batch (map string_bytes words.now) files) (λ v. plan.commands (texts v.items)) result) }
+    ensures took { Took (word_at (map string_bytes words.now) 1) 1 batch_file (λ said v. texts v.items ≡ said) (S.state store.old) (S.state store.new) result }
     ensures single { IfOk result (λ v. AreSingle (texts v.items)) }
-    ensures cause { IfErr result (λ s. Caused (λ w. w ≡ 1) (S.state store.old) (S.state store.new) s) }
-    ensures reads { IfErr result (λ s. s ≢ Status.WriteFault) }
 {
     match read_front(alloc, store, name_of(words, 1), BATCH_LIMIT) {
         Ok(text) => take_commands(alloc, &text),
-        Err(StoreFault::Missing) => Err(Status::MissingFile { word: 1 }),
-        Err(StoreFault::Failed) => Err(Status::ReadFault { word: 1 }),
-        Err(StoreFault::Memory) => Err(Status::Memory),
+        Err(fault) => Err(unread(1, fault)),
     }
 }
 

@@ -1,25 +1,27 @@
 // The cipher that `run` writes.
-ghost use Rattle.std.specs.Prelude.{◌≡◌, ◌≢◌, ◌≤◌, ◌<◌, ◌+◌, ℕ, List, true, length, map, slice_get, slice_index, Some, None, Ok, All, IsTrue, OnErr, IfOk, IfErr};
+ghost use Rattle.std.specs.Prelude.{◌≡◌, ◌≤◌, ◌<◌, ℕ, List, [], length, map, slice_get, slice_index, Some, None, All, IsTrue, IfOk};
 ghost use Rattle.std.specs.Option.{ForSome};
 ghost use Rattle.std.specs.String.{string_bytes};
-ghost use Rattle.outer_io.specs.Store.{Files, StoreState};
+ghost use Rattle.outer_io.specs.Store.{StoreState};
 ghost use Rattle.set_table.specs.Sets.{degree_of};
 ghost use Rattle.file_model.specs.declared.file_kind.FileKind.TheVariants as kind;
 ghost use Rattle.file_model.specs.FileText.{FileContent, bound_fits};
 ghost use Rattle.file_model.specs.Heads.{HeadKeepsRules};
-ghost use Rattle.script_text.specs.Scripts.{is_linear, cipher_inputs, plain_inputs};
+ghost use Rattle.script_text.specs.Scripts.{cipher_inputs, needs_of, plain_inputs};
 ghost use Rattle.noise_check.specs.Numbers.{numbers};
 ghost use Rattle.noise_check.specs.Verdicts.{verdict_of};
+ghost use Rattle.command_words.specs.Form.{form_of};
 ghost use Rattle.command_words.specs.Line.{word_at};
 ghost use Rattle.command_words.specs.declared.form.Form.TheVariants as form;
 ghost use Rattle.command_model.specs.Bindings as bindings;
+ghost use Rattle.command_model.specs.Reading.{Output, script_file};
 ghost use Rattle.command_model.specs.Plan as plan;
-ghost use Rattle.command_model.specs.Batches.{NoCountFell};
-ghost use Rattle.run_operands.specs.BoundFiles.{AreHeld, AreOperands, MayBeBound};
-ghost use Rattle.bfv_commands.specs.Filled.{AreListed, IsListed};
+ghost use Rattle.command_model.specs.Commanded.{Commanded};
+ghost use Rattle.command_stages.specs.Stages.{Says, Came, Wrote};
+ghost use Rattle.run_operands.specs.BoundFiles.{AreSeen, AreHeld, MayBeBound};
 ghost use Rattle.run_operands.specs.Ordered.{CanRunOn};
-ghost use Rattle.bfv_commands.specs.RunStages.{AreMatched, AreOfKey, LeavesRoom, bounds_of, run_head, run_with};
-ghost use Rattle.command_stages.specs.Stages.{IsRunOf, Planned, Ran, Wrote, Caused};
+ghost use Rattle.bfv_commands.specs.Filled.{AreListed, IsListed};
+ghost use Rattle.bfv_commands.specs.RunStages.{AreMatched, AreOfKey, IsRunOf, IsWordOf, LeavesRoom, bounds_of, run_head, run_with};
 
 use crate::execution::executed;
 use bound_num::Bound;
@@ -34,7 +36,7 @@ use set_table::SetName;
 use std::alloc::{AllocError, Global};
 use text_commands::output_bound;
 
-/// Writes what a linear script gives on the operands of its bindings, which match.
+/// Writes what a script that needs no key gives on the operands of its bindings, which match.
 pub fn write_run<S: Store>(
     alloc: Global,
     words: &[String],
@@ -44,16 +46,11 @@ pub fn write_run<S: Store>(
 ) -> Result<(), Status>
     requires high { length words.now ≤ 1000 }
     requires low { 3 ≤ length words.now }
-    requires linear { All (λ step. is_linear step.op ≡ true) script.now.steps }
+    requires keyless { needs_of script.now ≡ [] }
     requires matched { CanRunOn script.now (map string_bytes words.now) operands.now }
-    requires idle { (S.state store.old).pending ≡ None }
-    ensures idle { (S.state store.new).pending ≡ None }
-    ensures counts { NoCountFell (S.state store.old) (S.state store.new) }
-    ensures unchanged { OnErr result ((S.state store.new).files ≡ (S.state store.old).files) }
-    ensures told { ForSome (S.state store.old).files (λ files. plan.script_operand (map string_bytes words.now) files 1 ≡ Ok script.now
-        → plan.not_linear script.now ≡ None → AreMatched (map string_bytes words.now) files script.now operands.now
-        → Ran form.Run (map string_bytes words.now) files (S.state store.new).files result) }
-    ensures cause { IfErr result (λ s. Caused (λ w. (3 ≤ w) × (w < length words.now)) (S.state store.old) (S.state store.new) s) }
+    requires form { form_of (map string_bytes words.now) ≡ Some form.Run }
+    ensures { (begun : StoreState) → ForSome begun.files (λ files. Says files (word_at (map string_bytes words.now) 1) 1 script_file script.now)
+        → AreMatched script.now (map string_bytes words.now) begun (S.state store.old) operands.now → Commanded (map string_bytes words.now) (λ _. None) begun (S.state store.new) result }
 {
     let Ok(ciphers) = ciphers_in_order(alloc, words, script, operands) else {
         return Err(Status::Memory);
@@ -61,10 +58,7 @@ pub fn write_run<S: Store>(
     let Ok(places) = plain_places(alloc, words, script, operands) else {
         return Err(Status::Memory);
     };
-    let bound = match accepted_output(alloc, words, script, &ciphers) {
-        Ok(bound) => bound,
-        Err(status) => return Err(status),
-    };
+    let bound = accepted_output(alloc, words, script, &ciphers)?;
     let head = output_head(script, key_id(words, script, operands), bound);
     write_output(
         alloc, words, store, script, &ciphers, operands, &places, &head,
@@ -75,8 +69,7 @@ pub fn write_run<S: Store>(
 /// least.
 fn key_id(words: &[String], script: &Script, operands: &[Operand]) -> [u8; 16]
     requires matched { CanRunOn script.now (map string_bytes words.now) operands.now }
-    ensures { (files : Files) (planned : List bindings.Operand) → AreOperands (map string_bytes words.now) files operands.now planned
-        → result ≡ bindings.first_key_id planned }
+    ensures { (planned : List bindings.Operand) → AreSeen operands.now planned → result ≡ bindings.first_key_id planned }
 {
     // Tells that the script is sound.
     let _set = script.set();
@@ -94,24 +87,18 @@ fn accepted_output(
     script: &Script,
     ciphers: &[BoundCipher],
 ) -> Result<Bound, Status>
-    requires linear { All (λ step. is_linear step.op ≡ true) script.now.steps }
+    requires keyless { needs_of script.now ≡ [] }
     requires count { length ciphers.now ≡ length (cipher_inputs script.now.inputs) }
     requires bound { (r : ℕ) (cipher : BoundCipher) → slice_get ciphers.now r ≡ Some cipher → MayBeBound script.now.set (length words.now) cipher }
-    ensures told { Planned (plan.accepted_or_noisy script.now (verdict_of script.now (numbers (bounds_of ciphers.now)))) (λ bound. plan.accepted bound) result }
+    ensures came { (output : Bound → Output) → Came (plan.judged script.now (verdict_of script.now (numbers (bounds_of ciphers.now))) output) output result }
     ensures room { IfOk result (LeavesRoom script.now (numbers (bounds_of ciphers.now))) }
-    ensures cause { IfErr result (λ s. (old : StoreState) (new : StoreState) → Caused (λ w. ⊥) old new s) }
-    ensures reads { IfErr result (λ s. s ≢ Status.WriteFault) }
-    ensures read { IfErr result (λ s. (word : ℕ) → s ≢ Status.ReadFault word) }
 {
     // Tells that the script is sound.
     let _set = script.set();
     let Ok(bounds) = stated_bounds(alloc, ciphers) else {
         return Err(Status::Memory);
     };
-    match output_bound(alloc, script, &bounds) {
-        Ok(bound) => Ok(bound),
-        Err(status) => Err(status),
-    }
+    output_bound(alloc, script, &bounds)
 }
 
 /// The bounds that ciphers state.
@@ -148,7 +135,7 @@ fn write_output<S: Store>(
     head: &Head,
 ) -> Result<(), Status>
     requires low { 3 ≤ length words.now }
-    requires linear { All (λ step. is_linear step.op ≡ true) script.now.steps }
+    requires keyless { needs_of script.now ≡ [] }
     requires cipher_count { length ciphers.now ≡ length (cipher_inputs script.now.inputs) }
     requires bound { All (MayBeBound script.now.set (length words.now)) ciphers.now }
     requires plain_count { length places.now ≡ length (plain_inputs script.now.inputs) }
@@ -156,14 +143,9 @@ fn write_output<S: Store>(
     requires head { head.now ≡ run_head script.now head.now.id head.now.bound }
     requires rules { HeadKeepsRules head.now }
     requires room { LeavesRoom script.now (numbers (bounds_of ciphers.now)) head.now.bound }
-    requires idle { (S.state store.old).pending ≡ None }
-    ensures idle { (S.state store.new).pending ≡ None }
-    ensures counts { NoCountFell (S.state store.old) (S.state store.new) }
-    ensures unchanged { OnErr result ((S.state store.new).files ≡ (S.state store.old).files) }
-    ensures told { ForSome (S.state store.old).files (λ files. (contents : List FileContent) (plains : List (List ℕ))
-        → AreHeld (map string_bytes words.now) files ciphers.now contents → AreOfKey contents head.now.id → AreListed operands.now places.now plains
-        → Wrote (word_at (map string_bytes words.now) 2) files (S.state store.new).files (IsRunOf (run_with script.now contents plains head.now)) result) }
-    ensures cause { IfErr result (λ s. Caused (λ w. (3 ≤ w) × (w < length words.now)) (S.state store.old) (S.state store.new) s) }
+    ensures { (contents : List FileContent) (plains : List (List ℕ)) → AreOfKey contents head.now.id → AreListed operands.now places.now plains
+        → Wrote (word_at (map string_bytes words.now) 2) (IsWordOf ciphers.now) (λ files. AreHeld (map string_bytes words.now) files ciphers.now contents)
+        (IsRunOf (run_with script.now contents plains head.now)) (S.state store.old) (S.state store.new) result }
 {
     match script.set() {
         SetName::One16 | SetName::Toy16 => write_of_degree::<S, 16>(
@@ -194,7 +176,7 @@ fn write_of_degree<S: Store, const N: usize>(
 ) -> Result<(), Status>
     requires degree { N ≡ degree_of script.now.set }
     requires low { 3 ≤ length words.now }
-    requires linear { All (λ step. is_linear step.op ≡ true) script.now.steps }
+    requires keyless { needs_of script.now ≡ [] }
     requires cipher_count { length ciphers.now ≡ length (cipher_inputs script.now.inputs) }
     requires bound { All (MayBeBound script.now.set (length words.now)) ciphers.now }
     requires plain_count { length places.now ≡ length (plain_inputs script.now.inputs) }
@@ -202,21 +184,13 @@ fn write_of_degree<S: Store, const N: usize>(
     requires head { head.now ≡ run_head script.now head.now.id head.now.bound }
     requires rules { HeadKeepsRules head.now }
     requires room { LeavesRoom script.now (numbers (bounds_of ciphers.now)) head.now.bound }
-    requires idle { (S.state store.old).pending ≡ None }
-    ensures idle { (S.state store.new).pending ≡ None }
-    ensures counts { NoCountFell (S.state store.old) (S.state store.new) }
-    ensures unchanged { OnErr result ((S.state store.new).files ≡ (S.state store.old).files) }
-    ensures told { ForSome (S.state store.old).files (λ files. (contents : List FileContent) (plains : List (List ℕ))
-        → AreHeld (map string_bytes words.now) files ciphers.now contents → AreOfKey contents head.now.id → AreListed operands.now places.now plains
-        → Wrote (word_at (map string_bytes words.now) 2) files (S.state store.new).files (IsRunOf (run_with script.now contents plains head.now)) result) }
-    ensures cause { IfErr result (λ s. Caused (λ w. (3 ≤ w) × (w < length words.now)) (S.state store.old) (S.state store.new) s) }
+    ensures { (contents : List FileContent) (plains : List (List ℕ)) → AreOfKey contents head.now.id → AreListed operands.now places.now plains
+        → Wrote (word_at (map string_bytes words.now) 2) (IsWordOf ciphers.now) (λ files. AreHeld (map string_bytes words.now) files ciphers.now contents)
+        (IsRunOf (run_with script.now contents plains head.now)) (S.state store.old) (S.state store.new) result }
 {
     // Tells that the script is sound.
     let _set = script.set();
-    let space = match executed::<S, N>(alloc, words, store, script, ciphers, operands, places) {
-        Ok(space) => space,
-        Err(status) => return Err(status),
-    };
+    let space = executed::<S, N>(alloc, words, store, script, ciphers, operands, places)?;
     let cipher = space.result();
     let _parts = cipher.parts();
     match write_cipher(store, name_of(words, 2), head, cipher) {

@@ -1,24 +1,25 @@
 // The command `run`.
-ghost use Rattle.std.specs.Prelude.{◌≡◌, ◌≢◌, ◌≤◌, ◌<◌, ◌+◌, ℕ, true, length, map, Some, None, Ok, All, OnOk, OnErr, IfOk, IfErr};
-ghost use Rattle.std.specs.Option.{ForSome};
+ghost use Rattle.std.specs.Prelude.{◌≡◌, ◌≤◌, ◌+◌, [], length, map, Some, None, OnOk, IfOk, IfErr};
 ghost use Rattle.std.specs.String.{string_bytes};
 ghost use Rattle.outer_io.specs.Store.{StoreState, OnlyReads};
-ghost use Rattle.script_text.specs.Scripts.{is_linear};
-ghost use Rattle.command_words.specs.Form.{form_of, IsOperand};
+ghost use Rattle.script_text.specs.Scripts.{needs_of};
+ghost use Rattle.command_words.specs.Form.{form_of};
 ghost use Rattle.command_words.specs.declared.form.Form.TheVariants as form;
+ghost use Rattle.command_model.specs.Bindings.{bindings_of, bound_names};
 ghost use Rattle.command_model.specs.Plan as plan;
-ghost use Rattle.command_model.specs.Batches.{NoCountFell};
+ghost use Rattle.command_model.specs.Commanded.{Commanded, Stopped};
+ghost use Rattle.command_stages.specs.Causes.{OwesNothing};
+ghost use Rattle.command_stages.specs.Stages.{Way};
 ghost use Rattle.run_operands.specs.BoundReads.{FitInputs};
 ghost use Rattle.run_operands.specs.Demands.{CiphersFit};
-ghost use Rattle.bfv_commands.specs.RunStages.{RefusedInRun, AreMatched};
-ghost use Rattle.command_stages.specs.Stages.{Ran, Caused};
+ghost use Rattle.bfv_commands.specs.RunStages.{ScriptCame, AreMatched};
 
 use crate::run_output::write_run;
 use command_stages::read_script;
 use command_words::Status;
 use outer_io::Store;
 use run_operands::{Operand, match_bindings, match_operands, read_operands};
-use script_run::first_nonlinear;
+use script_run::first_needing_key;
 use script_text::{Script, ScriptPlace};
 use std::alloc::Global;
 
@@ -27,62 +28,37 @@ pub fn run_script<S: Store>(alloc: Global, words: &[String], store: &mut S) -> R
     requires form { form_of (map string_bytes words.now) ≡ Some form.Run }
     requires low { 3 ≤ length words.now }
     requires high { length words.now ≤ 1000 }
-    requires idle { (S.state store.old).pending ≡ None }
-    ensures idle { (S.state store.new).pending ≡ None }
-    ensures counts { NoCountFell (S.state store.old) (S.state store.new) }
-    ensures told { ForSome (S.state store.old).files (λ files. Ran form.Run (map string_bytes words.now) files (S.state store.new).files result) }
-    ensures unchanged { OnErr result ((S.state store.new).files ≡ (S.state store.old).files) }
-    ensures cause { IfErr result (λ s. Caused (IsOperand form.Run (length (map string_bytes words.now))) (S.state store.old) (S.state store.new) s) }
+    ensures { Commanded (map string_bytes words.now) (λ _. None) (S.state store.old) (S.state store.new) result }
 {
-    let script = match bound_script(alloc, words, store) {
-        Ok(script) => script,
-        Err(status) => return Err(status),
-    };
-    let operands = match matched_operands(alloc, words, store, &script) {
-        Ok(operands) => operands,
-        Err(status) => return Err(status),
-    };
+    let script = bound_script(alloc, words, store)?;
+    let operands = matched_operands(alloc, words, store, &script)?;
     write_run(alloc, words, store, &script, &operands)
 }
 
-/// The script, where it is linear and each of its inputs is bound once.
+/// The script, where it needs no key and each of its inputs is bound once.
 fn bound_script<S: Store>(alloc: Global, words: &[String], store: &mut S) -> Result<Script, Status>
+    requires form { form_of (map string_bytes words.now) ≡ Some form.Run }
     requires low { 3 ≤ length words.now }
     requires high { length words.now ≤ 1000 }
     ensures keeps { OnlyReads (S.state store.old) (S.state store.new) }
-    ensures read { ForSome (S.state store.old).files (λ files. IfOk result (λ script. plan.script_operand (map string_bytes words.now) files 1 ≡ Ok script)) }
-    ensures refused { ForSome (S.state store.old).files (λ files. IfErr result (RefusedInRun (map string_bytes words.now) files)) }
-    ensures built { IfOk result (λ script. plan.not_linear script ≡ None) }
-    ensures linear { IfOk result (λ script. All (λ step. is_linear step.op ≡ true) script.steps) }
+    ensures came { ScriptCame (map string_bytes words.now) (S.state store.old) (S.state store.new) result }
+    ensures keyless { IfOk result (λ script. needs_of script ≡ []) }
     ensures bound { IfOk result (λ script. plan.badly_bound script (map string_bytes words.now) ≡ None) }
-    ensures cause { IfErr result (λ s. Caused (IsOperand form.Run (length (map string_bytes words.now))) (S.state store.old) (S.state store.new) s) }
-    ensures reads { IfErr result (λ s. s ≢ Status.WriteFault) }
 {
-    let script = match read_script(alloc, store, words, 1) {
-        Ok(script) => script,
-        Err(status) => return Err(status),
-    };
-    match match_steps(&script) {
-        Ok(()) => {}
-        Err(status) => return Err(status),
-    }
-    match match_bindings(&script, words) {
-        Ok(()) => Ok(script),
-        Err(status) => Err(status),
-    }
+    let script = read_script(alloc, store, words, 1)?;
+    match_steps(&script)?;
+    match_bindings(&script, words)?;
+    Ok(script)
 }
 
-/// Whether each step of a script is linear. Products of ciphertexts and the switching of keys aren't
-/// built yet.
+/// Whether no step of a script needs a key. The switching of keys isn't built yet.
 fn match_steps(script: &Script) -> Result<(), Status>
-    ensures ok { OnOk result (plan.not_linear script.now ≡ None) }
-    ensures linear { OnOk result (All (λ step. is_linear step.op ≡ true) script.now.steps) }
-    ensures err { IfErr result (λ s. plan.not_linear script.now ≡ Some s) }
-    ensures cause { IfErr result (λ s. (old : StoreState) (new : StoreState) → Caused (λ w. ⊥) old new s) }
-    ensures reads { IfErr result (λ s. s ≢ Status.WriteFault) }
-    ensures read { IfErr result (λ s. (word : ℕ) → s ≢ Status.ReadFault word) }
+    ensures ok { OnOk result (plan.needing_key script.now ≡ None) }
+    ensures keyless { OnOk result (needs_of script.now ≡ []) }
+    ensures err { IfErr result (λ s. plan.needing_key script.now ≡ Some s) }
+    ensures owes { IfErr result OwesNothing }
 {
-    match first_nonlinear(script) {
+    match first_needing_key(script) {
         Some(step) => Err(Status::BadScript {
             fault: ScriptPlace::Syntax(script.step_line(step)),
         }),
@@ -97,26 +73,23 @@ fn matched_operands<S: Store>(
     store: &mut S,
     script: &Script,
 ) -> Result<Vec<Operand>, Status>
+    requires form { form_of (map string_bytes words.now) ≡ Some form.Run }
     requires low { 3 ≤ length words.now }
     requires high { length words.now ≤ 1000 }
-    requires built { plan.not_linear script.now ≡ None }
-    requires bound { plan.badly_bound script.now (map string_bytes words.now) ≡ None }
     ensures keeps { OnlyReads (S.state store.old) (S.state store.new) }
-    ensures matched { ForSome (S.state store.old).files (λ files. IfOk result (λ v. AreMatched (map string_bytes words.now) files script.now v.items)) }
-    ensures refused { ForSome (S.state store.old).files (λ files. plan.script_operand (map string_bytes words.now) files 1 ≡ Ok script.now
-        → IfErr result (RefusedInRun (map string_bytes words.now) files)) }
+    ensures ok { (begun : StoreState)
+        → Way (map string_bytes words.now) (plan.reading_of_bindings script.now 3 (bindings_of (map string_bytes words.now))
+        (plan.run_on script.now (bound_names (map string_bytes words.now)))) begun (S.state store.old)
+        → IfOk result (λ v. AreMatched script.now (map string_bytes words.now) begun (S.state store.new) v.items) }
+    ensures err { (begun : StoreState)
+        → Way (map string_bytes words.now) (plan.reading_of_bindings script.now 3 (bindings_of (map string_bytes words.now))
+        (plan.run_on script.now (bound_names (map string_bytes words.now)))) begun (S.state store.old)
+        → IfErr result (Stopped (map string_bytes words.now) begun (S.state store.new)) }
     ensures count { IfOk result (λ v. length v.items + 3 ≡ length words.now) }
     ensures inputs { IfOk result (λ v. FitInputs script.now (map string_bytes words.now) v.items) }
     ensures ciphers { IfOk result (λ v. CiphersFit script.now.set v.items) }
-    ensures cause { IfErr result (λ s. Caused (λ w. (3 ≤ w) × (w < length words.now)) (S.state store.old) (S.state store.new) s) }
-    ensures reads { IfErr result (λ s. s ≢ Status.WriteFault) }
 {
-    let operands = match read_operands(alloc, store, words, script) {
-        Ok(operands) => operands,
-        Err(status) => return Err(status),
-    };
-    match match_operands(script, &operands) {
-        Ok(()) => Ok(operands),
-        Err(status) => Err(status),
-    }
+    let operands = read_operands(alloc, store, words, script)?;
+    match_operands(script, &operands)?;
+    Ok(operands)
 }

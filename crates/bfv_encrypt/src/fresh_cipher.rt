@@ -13,7 +13,7 @@ ghost use Rattle.bfv_model.specs.Holds.{listed_word};
 ghost use Rattle.bfv_model.specs.Keys.{WordsArePublicKeyOf};
 ghost use Rattle.bfv_model.specs.NoiseBounds.{fresh_bound, fresh_bound_under};
 ghost use Rattle.bfv_model.specs.Plaintexts.{scaled_plain};
-ghost use Rattle.bfv_params.specs.Ciphers.{HoldsIn};
+ghost use Rattle.bfv_params.specs.Ciphers.{HoldsIn, IsCipherOf};
 ghost use Rattle.bfv_params.specs.Contexts.{data_in, modulus_in, scratch_rows_in, transforms_in};
 
 use bfv_params::{Cipher, Context, Public, product_into, transform_into, transform_small_into};
@@ -39,12 +39,10 @@ pub fn encrypt<const N: usize, R: Rng>(
     requires level { (ctx.now).level ≡ length (data_of (ctx.now).set) }
     requires public_set { (public.now).set ≡ (ctx.now).set }
     requires plain { IsReduced N (plain_of (ctx.now).set) plain.now }
-    requires out_set { (out.old).set ≡ (ctx.now).set }
-    requires out_level { (out.old).level ≡ (ctx.now).level }
+    requires out_of { IsCipherOf (ctx.now) (out.old) }
     requires scratch { length scratch.old ≡ scratch_rows_in (ctx.now) }
-    ensures set { (out.new).set ≡ (out.old).set }
+    ensures of_context { IsCipherOf (ctx.now) (out.new) }
     ensures room { (out.new).room ≡ (out.old).room }
-    ensures level { (out.new).level ≡ (out.old).level }
     ensures parts { (out.new).parts ≡ 2 }
     ensures words { (part i k : ℕ) → part < 3 → i < length (data_of (ctx.now).set) → k < N →
         listed_word (length (data_of (ctx.now).set)) (out.new).rows part i k

@@ -64,26 +64,26 @@ ended (Some files) pending written name head words is size front =
     ap₂ (λ (n b : List ℕ). Some (map.insert files n b)) (ap (λ (p : Option (List ℕ)). unwrap_or p []) is) (ap digested (front files refl words size))
 
 -- ---- rules
-keeps_rules : (head : Head) (words : List ℕ) → HeadKeepsRules head → length head.id ≡ 16 → length words ≡ head.words
+keeps_rules : (head : Head) (words : List ℕ) → HeadKeepsRules head → length words ≡ head.words
     → ((i : ℕ) → i < length words → slice_index words i < word_modulus head.kind head.set i) → KeepsRules (content_with head words)
-keeps_rules head words rules id size reduced = record {
+keeps_rules head words rules size reduced = record {
   set = rules.set;
   parts = rules.parts;
   element = rules.element;
-  key_id = id;
+  key_id = rules.key_id;
   bound = rules.bound;
   count = size ∙ rules.count;
   reduced = reduced;
 }
 
 -- the words of parts are reduced where the rows are
-listed_keep_rules : (head : Head) (n count parts : ℕ) (moduli : List ℕ) (word : ℕ → ℕ → ℕ → ℕ) → HeadKeepsRules head → length head.id ≡ 16
+listed_keep_rules : (head : Head) (n count parts : ℕ) (moduli : List ℕ) (word : ℕ → ℕ → ℕ → ℕ) → HeadKeepsRules head
     → n ≡ degree_of head.set → 0 < count → row_moduli head.kind head.set ≡ moduli → length moduli ≡ count → parts * count * n ≡ head.words
     → ((j i k : ℕ) → j < parts → i < count → k < n → word j i k < slice_index moduli i) → KeepsRules (content_with head (listed_words n count parts word))
-listed_keep_rules head n count parts moduli word rules id degree some are counted total reduced =
+listed_keep_rules head n count parts moduli word rules degree some are counted total reduced =
     let size = length-listed_words n count parts word in
     let positive : 0 < n = subst (λ (d : ℕ). 0 < d) (sym degree) (degree_pos head.set) in
-    keeps_rules head (listed_words n count parts word) rules id (size ∙ total) (λ i below.
+    keeps_rules head (listed_words n count parts word) rules (size ∙ total) (λ i below.
     let place : i < parts * count * n = omega arith in
     let modulus : slice_index moduli (i / n % count) ≡ word_modulus head.kind head.set i =
     ap₂ (λ (d c : ℕ). slice_index moduli (i / d % c)) degree (sym counted)
@@ -141,11 +141,11 @@ secret_count head n rules is degree =
     let count : head.words ≡ 1 * degree_of head.set = rules.count ∙ ap (λ (k : FileKind). row_count k head.set head.parts * degree_of head.set) is in
     omega arith
 
-pub secret_keeps_rules : (head : Head) (n : ℕ) (small : List ℤ) → HeadKeepsRules head → length head.id ≡ 16 → head.kind ≡ Secret
+pub secret_keeps_rules : (head : Head) (n : ℕ) (small : List ℤ) → HeadKeepsRules head → head.kind ≡ Secret
     → n ≡ degree_of head.set → KeepsRules (content_with head (secret_words n small))
-secret_keeps_rules head n small rules id is degree =
+secret_keeps_rules head n small rules is degree =
     let size : length (secret_words n small) ≡ n = length-values_below n (λ k. residue 3 (listed_polynomial small k)) in
-    keeps_rules head (secret_words n small) rules id (size ∙ secret_count head n rules is degree) (λ i below.
+    keeps_rules head (secret_words n small) rules (size ∙ secret_count head n rules is degree) (λ i below.
     let inside : i < n = omega arith in
     let modulus : 3 ≡ word_modulus head.kind head.set i =
     sym (ap (λ (p : ℕ). slice_index (3 ∷ []) p) (mod-one (i / degree_of head.set))) ∙ ap (λ (k : FileKind). word_modulus k head.set i) (sym is) in
@@ -173,12 +173,12 @@ at_most_three parts count is =
     ⊎_elim (λ (two : parts ≡ 2). subst (λ (p : ℕ). p * count ≤ 3 * count) (sym two) (omega arith))
     (λ (three : parts ≡ 3). subst (λ (p : ℕ). p * count ≤ 3 * count) (sym three) (omega arith)) is
 
-pub parts_keep_rules : (head : Head) (n parts : ℕ) (rows : List (List ℕ)) → HeadKeepsRules head → length head.id ≡ 16 → n ≡ degree_of head.set
+pub parts_keep_rules : (head : Head) (n parts : ℕ) (rows : List (List ℕ)) → HeadKeepsRules head → n ≡ degree_of head.set
     → row_moduli head.kind head.set ≡ data_of head.set → parts * length (data_of head.set) * n ≡ head.words → parts * length (data_of head.set) ≤ length rows
     → ReducedInTurn n (length (data_of head.set)) (data_of head.set) rows → KeepsRules (content_with head (part_words n head.set parts rows))
-parts_keep_rules head n parts rows rules id degree are total within reduced =
+parts_keep_rules head n parts rows rules degree are total within reduced =
     let count = length (data_of head.set) in
-    listed_keep_rules head n count parts (data_of head.set) (listed_word count rows) rules id degree (data_count_pos head.set) are refl total
+    listed_keep_rules head n count parts (data_of head.set) (listed_word count rows) rules degree (data_count_pos head.set) are refl total
     (λ j i k part row place.
     let most : suc j * count ≤ parts * count = mul-le-mul_right count part in
     let inside : j * count + i < length rows = omega arith in
@@ -232,16 +232,16 @@ key_words-count head word rules is =
     let same : 2 * count * (count + 1) * degree_of head.set ≡ count * 2 * (count + 1) * degree_of head.set = omega arith in
     length-listed_words (degree_of head.set) (count + 1) (count * 2) (λ part. word (part / 2) (part % 2)) ∙ sym (total ∙ same)
 
-pub key_keeps_rules : (head : Head) (word : ℕ → ℕ → ℕ → ℕ → ℕ) → HeadKeepsRules head → length head.id ≡ 16 → wants Key head.kind ≡ true
+pub key_keeps_rules : (head : Head) (word : ℕ → ℕ → ℕ → ℕ → ℕ) → HeadKeepsRules head → wants Key head.kind ≡ true
     → ((i j r k : ℕ) → i < length (data_of head.set) → j < 2 → r < length (data_of head.set) + 1 → k < degree_of head.set → word i j r k < slice_index (key_of head.set) r)
     → KeepsRules (content_with head (key_words head.set word))
-key_keeps_rules head word rules id is reduced =
+key_keeps_rules head word rules is reduced =
     let count = length (data_of head.set) in
     let n = degree_of head.set in
     let by_part : ℕ → ℕ → ℕ → ℕ = λ part. word (part / 2) (part % 2) in
     let table = key_table head.kind head.set is rules.set in
     let some_rows : 0 < count + 1 = omega arith in
-    listed_keep_rules head n (count + 1) (count * 2) (key_of head.set) by_part rules id refl some_rows table.moduli table.count
+    listed_keep_rules head n (count + 1) (count * 2) (key_of head.set) by_part rules refl some_rows table.moduli table.count
     (sym (length-listed_words n (count + 1) (count * 2) by_part) ∙ key_words-count head word rules is)
     (λ part r k below row place.
     let digit : part / 2 < count = omega arith in

@@ -11,7 +11,6 @@ ghost use Rattle.cipher_files.specs.Contents.{key_words};
 ghost use Rattle.cipher_files.specs.Writing.{head_of, digits_put, IsWriting, HasWritten};
 
 use crate::Head;
-use crate::lengths::has_its_length;
 use crate::pieces::{append_rows, begin_file, finish_file};
 use outer_io::{Store, StoreFault};
 use rns_poly::View;
@@ -87,7 +86,6 @@ impl KeyWriter {
             → KeepsRules (content_with (head_of self) (key_words (head_of self).set word)) }
         ensures err { OnErr result ((S.state store.new).files ≡ (S.state store.old).files) }
     {
-        has_its_length(&self.head.id);
         finish_file(store, self.hasher)
     }
 }

@@ -11,7 +11,6 @@ ghost use Rattle.file_model.specs.Heads.{HeadKeepsRules, content_with};
 ghost use Rattle.cipher_files.specs.Contents.{secret_words, part_words};
 
 use crate::Head;
-use crate::lengths::has_its_length;
 use crate::pieces::{append_residues, append_rows, begin_file, finish_file};
 use bfv_params::{Cipher, Public, Secret};
 use outer_io::{Store, StoreFault};
@@ -38,7 +37,6 @@ pub fn write_secret<S: Store, const N: usize>(
     ensures meaning { (k : ℕ) → k < N →
         secret_polynomial (secret_words N (secret.now).small) k ≡ listed_polynomial (secret.now).small k }
 {
-    has_its_length(&head.id);
     write_residues(store, name, head, secret.small())
 }
 
@@ -60,7 +58,6 @@ pub fn write_public<S: Store, const N: usize>(
     ensures err { OnErr result ((S.state store.new).files ≡ (S.state store.old).files) }
     ensures rules { KeepsRules (content_with head.now (part_words N head.now.set 2 (public.now).rows)) }
 {
-    has_its_length(&head.id);
     write_rows(store, name, head, public.view())
 }
 
@@ -84,7 +81,6 @@ pub fn write_cipher<S: Store, const N: usize>(
     ensures err { OnErr result ((S.state store.new).files ≡ (S.state store.old).files) }
     ensures rules { KeepsRules (content_with head.now (part_words N head.now.set head.now.parts (cipher.now).rows)) }
 {
-    has_its_length(&head.id);
     let count = cipher.parts() as usize * head.set.data_count();
     write_rows(store, name, head, cipher.view().rows_from_to(0, count))
 }

@@ -11,7 +11,8 @@ use Rattle.command_words.specs.Status.{parts_of}
 use Rattle.command_words.specs.declared.form.Form.{Form}
 use Rattle.command_words.specs.declared.status.Status.{Status}
 use Rattle.command_words.specs.declared.status.Status.TheVariants.{Done, Usage, Memory, ReadFault, WriteFault, MissingFile}
-use Rattle.command_model.specs.Plan.{Output, accepted, plan, IsReached, IsWritten, out_name}
+use Rattle.command_model.specs.Reading.{Output, accepted, IsReached, MayRefuse}
+use Rattle.command_model.specs.Plan.{reading, plan, IsWritten, out_name}
 
 -- an answer that no word and no file brings about: memory was wanting, or a call of the store or the sink failed
 abbrev pub IsFault : Status → Type 0
@@ -41,7 +42,7 @@ pub record Told (words : List (List ℕ)) (before : Files) (after : Option Files
   pub refused : answer ≢ Done → IsFault answer ⊎ (plan words before ≡ Err answer)
   -- a file is written only where nothing is refused, and read only where nothing was refused before
   pub write_fault : answer ≡ WriteFault → IsOk (plan words before)
-  pub read_fault : (word : ℕ) → answer ≡ ReadFault word → IsReached (form_of words) words before word
+  pub read_fault : (word : ℕ) → answer ≡ ReadFault word → IsReached before (reading words) word
 
 -- no count of failed calls rose
 pub record NoFaultRose (old new : StoreState) (old_sink new_sink : SinkState) : Type 0 where
@@ -66,6 +67,8 @@ WriteRose None old new old_sink new_sink = Rose old_sink.faults new_sink.faults
 
 -- What an answer owes to, whether the store tells its files or not.
 pub record Cause (words : List (List ℕ)) (old new : StoreState) (old_sink new_sink : SinkState) (answer : Status) : Type 0 where
+  -- a refusal is one that these words may come to, by whatever the files say
+  pub refusal : answer ≢ Done → IsFault answer ⊎ MayRefuse (reading words) answer
   -- Usage comes exactly where the words have no form
   pub usage : answer ≡ Usage → form_of words ≡ None
   pub no_form : form_of words ≡ None → (answer ≡ Usage) ⊎ (answer ≡ Memory)

@@ -5,7 +5,8 @@ use Rattle.outer_io.specs.Store.{Files, StoreState, OnlyReads}
 use Rattle.outer_io.specs.Sink.{SinkState}
 use Rattle.command_words.specs.declared.status.Status.{Status}
 use Rattle.command_words.specs.declared.status.Status.TheVariants.{Done, Memory, ReadFault}
-use Rattle.command_model.specs.Plan.{commands, plan}
+use Rattle.command_model.specs.Reading.{commands}
+use Rattle.command_model.specs.Plan.{plan}
 use Rattle.command_model.specs.Plain.{State, Stands, step}
 use Rattle.command_model.specs.Answers.{Told, NoFaultRose, IsComplete, Cause, Printed}
 

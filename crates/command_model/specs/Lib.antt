@@ -1,5 +1,7 @@
 pub mod Bindings
+pub mod Reading
 pub mod Plan
 pub mod Answers
 pub mod Plain
 pub mod Batches
+pub mod Commanded

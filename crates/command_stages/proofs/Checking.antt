@@ -1,9 +1,8 @@
 -- Scripts that are read and checked.
 use Rattle.std.proofs.Common.{◌≡◌, ℕ, ◌+◌, ◌<◌, List, length, take, refl, map, sym, ◌∙◌, ap, subst}
-use Rattle.std.specs.Prelude.{Option, Some, None, Result, Ok, Err}
+use Rattle.std.specs.Prelude.{Option, Some, None, Err}
 use Rattle.std.proofs.lemmas.Bool.{lt-ltb}
 use Rattle.std.proofs.lemmas.List.{length-map}
-use Rattle.outer_io.specs.Store.{Files, StoreState}
 use Rattle.bound_num.specs.declared.Bound.{Bound}
 use Rattle.script_text.specs.declared.faults.ScriptPlace.TheVariants.{TooLong}
 use Rattle.script_text.specs.Grammar.{script_of}
@@ -14,9 +13,6 @@ use Rattle.noise_check.specs.RoundedBounds.{rounded_bounds, rounded_bound}
 use Rattle.noise_check.specs.Verdicts.{verdict_of, verdict_at, first_above}
 use Rattle.noise_check.specs.declared.verdict.Verdict.TheVariants.{Accepted}
 use Rattle.noise_check.proofs.BoundLists.{length-numbers}
-use Rattle.command_words.specs.declared.status.Status.{Status}
-use Rattle.command_model.specs.Plan.{script_operand, checked, and_then, plan_of_check}
-use Rattle.command_stages.specs.Stages.{Caused}
 use Rattle.command_stages.proofs.Fronts.{front_enough}
 
 too_long : (text : List ℕ) → 1048576 < length text → script_of text ≡ Err TooLong
@@ -39,19 +35,3 @@ output_within script inputs bounds sound count is = of_first (first_above script
         ∙ ap (λ (n : ℕ). n + length script.steps) (length-numbers inputs ∙ count) in
         subst (λ (n : ℕ). script.output < n) (sym registers) sound.output
     of_first (Some register) is = absurd (cc)
-
--- what comes of a script that was read
-pub check_by_script : (words : List (List ℕ)) (files : Files) (script : Script) → script_operand words files 1 ≡ Ok script → plan_of_check words files ≡ checked script
-check_by_script words files script is = ap (λ (r : Result Script Status). and_then r checked) is
-
--- an answer that owes to no call owes to no file either
-pub caused_by_no_call : (IsNamed : ℕ → Type 0) (old new : StoreState) (status : Status) → Caused (λ word. ⊥) old new status → Caused IsNamed old new status
-caused_by_no_call IsNamed old new status c = record {
-  refused = c.refused;
-  formed = c.formed;
-  read = c.read;
-  write = c.write;
-  missing = c.missing;
-  word = λ word at. absurd (c.word word at);
-  binding = c.binding;
-}

@@ -1,10 +1,11 @@
 pub mod Fronts
+pub mod Causes
+pub mod Taking
+pub mod HeadFiles
+pub mod Scanning
 pub mod Checking
 pub mod ValueTexts
 pub mod SeedFiles
-pub mod Scanning
-pub mod Steps
-pub mod RunPlans
-pub mod Outputs
-pub mod Running
-pub mod Planning
+pub mod Ways
+pub mod Writing
+pub mod Verdicts

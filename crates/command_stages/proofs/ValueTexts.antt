@@ -12,7 +12,8 @@ use Rattle.set_table.specs.Sets.{degree_of, plain_of}
 use Rattle.script_text.specs.declared.faults.ValuePlace.{ValuePlace}
 use Rattle.script_text.specs.declared.faults.ValuePlace.TheVariants.{TooLarge, TooMany, TooLong}
 use Rattle.script_text.specs.Reading.{values_of, values_unless, fault_of_text, numbers}
-use Rattle.command_model.specs.Plan.{values_or_fault}
+use Rattle.command_model.specs.Reading.{values_file, or_refused, said_by}
+use Rattle.command_words.specs.declared.status.Status.TheVariants.{BadValues}
 use Rattle.command_stages.specs.Operands.{AreValues}
 use Rattle.bfv_model.proofs.Sets.{plain_pos}
 use Rattle.command_stages.proofs.Fronts.{front_enough}
@@ -77,9 +78,9 @@ pub are_values : (set : SetName) (text listed : List ℕ) → 0 < plain_of set �
 are_values set text listed positive is = let fit = values_fit text listed (degree_of set) (plain_of set) positive is in record { count = fit.0; below = fit.1 }
 
 -- the values of a text that was taken
-pub values_of_taken : (set : SetName) (word : ℕ) (text listed : List ℕ) → values_or_fault word (values_of text (degree_of set) (plain_of set)) ≡ Ok listed → AreValues set listed
+pub values_of_taken : (set : SetName) (word : ℕ) (text listed : List ℕ) → said_by (values_file set) word text ≡ Ok listed → AreValues set listed
 values_of_taken set word text listed is = of_result (values_of text (degree_of set) (plain_of set)) refl is
   where
-    of_result : (read : Result (List ℕ) ValuePlace) → values_of text (degree_of set) (plain_of set) ≡ read → values_or_fault word read ≡ Ok listed → AreValues set listed
+    of_result : (read : Result (List ℕ) ValuePlace) → values_of text (degree_of set) (plain_of set) ≡ read → or_refused (BadValues word) read ≡ Ok listed → AreValues set listed
     of_result (Ok values) found is = let same : values ≡ listed = cc in are_values set text listed (plain_pos set) (found ∙ ap Ok same)
     of_result (Err place) found is = absurd (cc)

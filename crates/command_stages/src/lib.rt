@@ -6,6 +6,6 @@ mod operand;
 mod scanned;
 mod seed;
 
-pub use operand::{name_of, read_script, read_values_named, read_values_operand};
+pub use operand::{name_of, read_script, read_values_named, read_values_operand, unread};
 pub use scanned::{match_heads, scan_named, scan_operand, status_of};
 pub use seed::{SEED_BYTES, read_seed};

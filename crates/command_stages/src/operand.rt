@@ -1,14 +1,13 @@
 // The texts that a command reads.
-ghost use Rattle.std.specs.Prelude.{◌≡◌, ◌≢◌, ◌⊎◌, ◌<◌, length, map, Some, Ok, Err, IfOk, IfErr};
-ghost use Rattle.std.specs.Option.{ForSome};
+ghost use Rattle.std.specs.Prelude.{◌≡◌, ◌⊎◌, ◌<◌, length, map, Ok, Err, IfOk, IfErr};
 ghost use Rattle.std.specs.String.{string_bytes};
-ghost use Rattle.outer_io.specs.Store.{OnlyReads, file};
 ghost use Rattle.script_text.specs.declared.faults.ValuePlace.{ValuePlace};
 ghost use Rattle.script_text.specs.declared.faults.ScriptPlace.{ScriptPlace};
 ghost use Rattle.command_words.specs.Line.{word_at};
-ghost use Rattle.command_model.specs.Plan as plan;
+ghost use Rattle.file_model.specs.Reading.{of_store};
+ghost use Rattle.command_model.specs.Reading.{values_file, script_file, said_by, status_of};
 ghost use Rattle.command_stages.specs.Operands.{AreValues};
-ghost use Rattle.command_stages.specs.Stages.{Planned, Caused};
+ghost use Rattle.command_stages.specs.Stages.{Took};
 
 use command_words::Status;
 use outer_io::{Store, StoreFault, read_front};
@@ -32,6 +31,17 @@ pub fn name_of(words: &[String], word: u32) -> &str
     words[word as usize].as_str()
 }
 
+/// What is said of a file that the store didn't give, the file being named by a word.
+pub fn unread(word: u32, fault: StoreFault) -> Status
+    ensures { result ≡ status_of word (of_store fault) }
+{
+    match fault {
+        StoreFault::Missing => Status::MissingFile { word },
+        StoreFault::Failed => Status::ReadFault { word },
+        StoreFault::Memory => Status::Memory,
+    }
+}
+
 /// The values in the text that a word names, as many as a set has slots.
 pub fn read_values_operand<S: Store>(
     alloc: Global,
@@ -41,11 +51,8 @@ pub fn read_values_operand<S: Store>(
     word: u32,
 ) -> Result<Vec<u64>, Status>
     requires { word < length words.now }
-    ensures keeps { OnlyReads (S.state store.old) (S.state store.new) }
-    ensures told { ForSome (S.state store.old).files (λ files.
-        Planned (plan.values_operand set (map string_bytes words.now) files word) (λ v. v.items) result) }
-    ensures cause { IfErr result (λ s. Caused (λ w. w ≡ word) (S.state store.old) (S.state store.new) s) }
-    ensures reads { IfErr result (λ s. s ≢ Status.WriteFault) }
+    ensures took { Took (word_at (map string_bytes words.now) word) word (values_file set) (λ listed v. v.items ≡ listed)
+        (S.state store.old) (S.state store.new) result }
     ensures values { IfOk result (λ v. AreValues set v.items) }
 {
     read_values_named(alloc, store, name_of(words, word), set, word)
@@ -60,26 +67,20 @@ pub fn read_values_named<S: Store>(
     set: SetName,
     word: u32,
 ) -> Result<Vec<u64>, Status>
-    ensures keeps { OnlyReads (S.state store.old) (S.state store.new) }
-    ensures told { ForSome (S.state store.old).files (λ files.
-        Planned (plan.taken_values set word (file files name.now)) (λ v. v.items) result) }
-    ensures cause { IfErr result (λ s. Caused (λ w. w ≡ word) (S.state store.old) (S.state store.new) s) }
-    ensures reads { IfErr result (λ s. s ≢ Status.WriteFault) }
+    ensures took { Took name.now word (values_file set) (λ listed v. v.items ≡ listed) (S.state store.old) (S.state store.new) result }
     ensures values { IfOk result (λ v. AreValues set v.items) }
 {
     match read_front(alloc, store, name, VALUES_LIMIT) {
         Ok(text) => take_values(alloc, &text, set, word),
-        Err(StoreFault::Missing) => Err(Status::MissingFile { word }),
-        Err(StoreFault::Failed) => Err(Status::ReadFault { word }),
-        Err(StoreFault::Memory) => Err(Status::Memory),
+        Err(fault) => Err(unread(word, fault)),
     }
 }
 
 /// The values of a text, of which at most a byte too many was read.
 fn take_values(alloc: Global, text: &[u8], set: SetName, word: u32) -> Result<Vec<u64>, Status>
-    ensures ok { IfOk result (λ v. plan.taken_values set word (Some text.now) ≡ Ok v.items) }
+    ensures ok { IfOk result (λ v. said_by (values_file set) word text.now ≡ Ok v.items) }
     ensures err { IfErr result (λ s. (s ≡ Status.Memory)
-        ⊎ ((place : ValuePlace) × ((s ≡ Status.BadValues word place) × (plan.taken_values set word (Some text.now) ≡ Err s)))) }
+        ⊎ ((place : ValuePlace) × ((s ≡ Status.BadValues word place) × (said_by (values_file set) word text.now ≡ Err s)))) }
 {
     match read_values(alloc, text, set.degree(), set.plain()) {
         Ok(values) => Ok(values),
@@ -96,25 +97,20 @@ pub fn read_script<S: Store>(
     word: u32,
 ) -> Result<Script, Status>
     requires { word < length words.now }
-    ensures keeps { OnlyReads (S.state store.old) (S.state store.new) }
-    ensures told { ForSome (S.state store.old).files (λ files.
-        Planned (plan.script_operand (map string_bytes words.now) files word) (λ script. script) result) }
-    ensures cause { IfErr result (λ s. Caused (λ w. w ≡ word) (S.state store.old) (S.state store.new) s) }
-    ensures reads { IfErr result (λ s. s ≢ Status.WriteFault) }
+    ensures { Took (word_at (map string_bytes words.now) word) word script_file (λ said script. script ≡ said)
+        (S.state store.old) (S.state store.new) result }
 {
     match read_front(alloc, store, name_of(words, word), SCRIPT_LIMIT) {
         Ok(text) => take_script(alloc, &text, word),
-        Err(StoreFault::Missing) => Err(Status::MissingFile { word }),
-        Err(StoreFault::Failed) => Err(Status::ReadFault { word }),
-        Err(StoreFault::Memory) => Err(Status::Memory),
+        Err(fault) => Err(unread(word, fault)),
     }
 }
 
 /// The script of a text, of which at most a byte too many was read.
 fn take_script(alloc: Global, text: &[u8], word: u32) -> Result<Script, Status>
-    ensures ok { IfOk result (λ script. plan.taken_script word (Some text.now) ≡ Ok script) }
+    ensures ok { IfOk result (λ script. said_by script_file word text.now ≡ Ok script) }
     ensures err { IfErr result (λ s. (s ≡ Status.Memory)
-        ⊎ ((place : ScriptPlace) × ((s ≡ Status.BadScript place) × (plan.taken_script word (Some text.now) ≡ Err s)))) }
+        ⊎ ((place : ScriptPlace) × ((s ≡ Status.BadScript place) × (said_by script_file word text.now ≡ Err s)))) }
 {
     match parse(alloc, text) {
         Ok(script) => Ok(script),

@@ -1,13 +1,12 @@
 // The files of keys and ciphers that a command names, as they are scanned.
-ghost use Rattle.std.specs.Prelude.{◌≡◌, ◌≢◌, ◌<◌, ℕ, true, length, map, Ok, Err, OnOk, IfOk, IfErr};
-ghost use Rattle.std.specs.Option.{ForSome};
+ghost use Rattle.std.specs.Prelude.{◌≡◌, ◌<◌, true, length, map, None, Some, OnOk, IfOk, IfErr};
 ghost use Rattle.std.specs.String.{string_bytes};
-ghost use Rattle.outer_io.specs.Store.{StoreState, OnlyReads};
 ghost use Rattle.file_model.specs.FileText.{FileContent};
 ghost use Rattle.file_model.specs.Heads.{HeadKeepsRules, IsHeadOf, wants};
-ghost use Rattle.command_model.specs.Plan as plan;
-ghost use Rattle.command_stages.specs.Operands.{Scanned, ScannedAt};
-ghost use Rattle.command_stages.specs.Stages.{Caused};
+ghost use Rattle.command_words.specs.Line.{word_at};
+ghost use Rattle.command_model.specs.Reading as reading;
+ghost use Rattle.command_model.specs.Plan.{unmatched};
+ghost use Rattle.command_stages.specs.Stages.{Took};
 
 use crate::operand::name_of;
 use command_words::Status;
@@ -22,10 +21,8 @@ pub fn scan_operand<S: Store>(
     word: u32,
 ) -> Result<Head, Status>
     requires { word < length words.now }
-    ensures keeps { OnlyReads (S.state store.old) (S.state store.new) }
-    ensures told { ForSome (S.state store.old).files (λ files. Scanned (map string_bytes words.now) files wanted word result) }
-    ensures cause { IfErr result (λ s. Caused (λ w. w ≡ word) (S.state store.old) (S.state store.new) s) }
-    ensures reads { IfErr result (λ s. s ≢ Status.WriteFault) }
+    ensures took { Took (word_at (map string_bytes words.now) word) word (reading.own_file wanted) (λ content head. IsHeadOf head content)
+        (S.state store.old) (S.state store.new) result }
     ensures rules { IfOk result (λ head. HeadKeepsRules head × (wants wanted head.kind ≡ true)) }
 {
     scan_named(store, name_of(words, word), wanted, word)
@@ -39,10 +36,7 @@ pub fn scan_named<S: Store>(
     wanted: Wanted,
     word: u32,
 ) -> Result<Head, Status>
-    ensures keeps { OnlyReads (S.state store.old) (S.state store.new) }
-    ensures told { ForSome (S.state store.old).files (λ files. ScannedAt files name.now wanted word result) }
-    ensures cause { IfErr result (λ s. Caused (λ w. w ≡ word) (S.state store.old) (S.state store.new) s) }
-    ensures reads { IfErr result (λ s. s ≢ Status.WriteFault) }
+    ensures took { Took name.now word (reading.own_file wanted) (λ content head. IsHeadOf head content) (S.state store.old) (S.state store.new) result }
     ensures rules { IfOk result (λ head. HeadKeepsRules head × (wants wanted head.kind ≡ true)) }
 {
     match scan(store, name, wanted) {
@@ -53,7 +47,7 @@ pub fn scan_named<S: Store>(
 
 /// What is said of a file that is refused with a fault, the file being named by a word.
 pub fn status_of(word: u32, fault: FileFault) -> Status
-    ensures { result ≡ plan.status_of word fault }
+    ensures { result ≡ reading.status_of word fault }
 {
     match fault {
         FileFault::Missing => Status::MissingFile { word },
@@ -66,14 +60,11 @@ pub fn status_of(word: u32, fault: FileFault) -> Status
     }
 }
 
-/// Whether the file of a word belongs to the set and to the secret of another file.
+/// What is said where the file of a word doesn't belong to the set or to the secret of another file.
 pub fn match_heads(word: u32, head: &Head, other: &Head) -> Result<(), Status>
-    ensures ok { (a b : FileContent) → IsHeadOf head.now a → IsHeadOf other.now b → OnOk result (plan.matching word a b ≡ Ok a) }
-    ensures err { (a b : FileContent) → IsHeadOf head.now a → IsHeadOf other.now b → IfErr result (λ s. plan.matching word a b ≡ Err s) }
+    ensures ok { (a b : FileContent) → IsHeadOf head.now a → IsHeadOf other.now b → OnOk result (unmatched word a b ≡ None) }
+    ensures err { (a b : FileContent) → IsHeadOf head.now a → IsHeadOf other.now b → IfErr result (λ s. unmatched word a b ≡ Some s) }
     ensures set { OnOk result (head.now.set ≡ other.now.set) }
-    ensures cause { IfErr result (λ s. (old : StoreState) (new : StoreState) → Caused (λ w. w ≡ word) old new s) }
-    ensures reads { IfErr result (λ s. s ≢ Status.WriteFault) }
-    ensures read { IfErr result (λ s. (w : ℕ) → s ≢ Status.ReadFault w) }
 {
     if head.set != other.set {
         return Err(Status::SetMismatch {

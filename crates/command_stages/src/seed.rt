@@ -1,12 +1,13 @@
 // Seeds: the front of a file, and the generator of random words that it seeds.
-ghost use Rattle.std.specs.Prelude.{◌≡◌, ◌≢◌, ◌<◌, ◌≤◌, min, length, take, map, IfOk, IfErr};
+ghost use Rattle.std.specs.Prelude.{◌≡◌, ◌<◌, ◌≤◌, min, length, take, map, IfOk, IfErr};
 ghost use Rattle.std.specs.Option.{ForSome};
 ghost use Rattle.std.specs.String.{string_bytes};
 ghost use Rattle.outer_io.specs.Store.{OnlyReads, ReadCause, ReadTold};
-ghost use Rattle.command_model.specs.Plan as plan;
-ghost use Rattle.command_stages.specs.Stages.{Planned, Caused};
+ghost use Rattle.command_words.specs.Line.{word_at};
+ghost use Rattle.command_model.specs.Reading.{seed_file};
+ghost use Rattle.command_stages.specs.Stages.{Took};
 
-use crate::operand::name_of;
+use crate::operand::{name_of, unread};
 use command_words::Status;
 use outer_io::{Store, StoreFault, read_piece};
 
@@ -21,18 +22,12 @@ pub fn read_seed<S: Store>(
     word: u32,
 ) -> Result<[u8; SEED_BYTES], Status>
     requires { word < length words.now }
-    ensures keeps { OnlyReads (S.state store.old) (S.state store.new) }
-    ensures told { ForSome (S.state store.old).files (λ files.
-        Planned (plan.seed_operand (map string_bytes words.now) files word) (λ seed. seed) result) }
-    ensures cause { IfErr result (λ s. Caused (λ w. w ≡ word) (S.state store.old) (S.state store.new) s) }
-    ensures reads { IfErr result (λ s. s ≢ Status.WriteFault) }
+    ensures { Took (word_at (map string_bytes words.now) word) word seed_file (λ said seed. seed ≡ said) (S.state store.old) (S.state store.new) result }
 {
     let mut seed = [0; SEED_BYTES];
     match fill_front(store, name_of(words, word), &mut seed) {
         Ok(have) => whole_seed(seed, have, word),
-        Err(StoreFault::Missing) => Err(Status::MissingFile { word }),
-        Err(StoreFault::Failed) => Err(Status::ReadFault { word }),
-        Err(StoreFault::Memory) => Err(Status::Memory),
+        Err(fault) => Err(unread(word, fault)),
     }
 }
 

@@ -57,5 +57,6 @@ pub record HeadKeepsRules (head : Head) : Type 0 where
   pub set : IsTrue (set_fits head.kind head.set)
   pub parts : IsTrue (parts_fit head.kind head.parts)
   pub element : IsTrue (element_fits head.kind head.set head.element)
+  pub key_id : length head.id ≡ 16
   pub bound : IsTrue (bound_fits head.kind head.set head.bound.m head.bound.e)
   pub count : head.words ≡ row_count head.kind head.set head.parts * degree_of head.set

@@ -1,10 +1,7 @@
--- The values of a cipher under a secret, from what was read of both, and what the stages of a command owe to.
+-- The values of a cipher under a secret, from what was read of both.
 use Rattle.std.proofs.Common.{◌≡◌, inl, inr, ℕ, ℤ, ◌*◌, ◌<◌, ◌≤◌, pos, ◌+ℤ◌, ◌-ℤ◌, ◌*ℤ◌, nat_abs, All, List, length, slice_index, refl, sym, ◌∙◌, ap, ap₂, subst, arith}
 use Rattle.std.proofs.lemmas.List.{take_all}
 use Rattle.std.proofs.lemmas.List.Elements.{All-from_get_or}
-use Rattle.outer_io.specs.Store.{StoreState, OnlyReads, Rose}
-use Rattle.outer_io.specs.declared.faults.StoreFault.{StoreFault}
-use Rattle.outer_io.specs.declared.faults.StoreFault.TheVariants as store
 use Rattle.set_table.specs.declared.SetName.{SetName}
 use Rattle.set_table.specs.Sets.{degree_of, plain_of, data_of}
 use Rattle.set_table.specs.Roots.{plain_root_of}
@@ -25,47 +22,9 @@ use Rattle.bfv_model.proofs.SlotSets.{slots-congruent}
 use Rattle.bfv_params.specs.Moduli.{data_at}
 use Rattle.script_text.specs.Values.{printed_values}
 use Rattle.slot_batch.proofs.Plaintexts.{plain_positive}
-use Rattle.command_words.specs.declared.status.Status.{Status}
 use Rattle.command_model.specs.Plan.{IsValuesText}
-use Rattle.command_model.specs.Answers.{IsFault}
-use Rattle.command_stages.specs.Stages.{Caused, IsDecryption, write_status}
+use Rattle.key_commands.specs.Decrypted.{IsDecryption}
 
--- ---- stages that follow others
--- what an answer owes to is owed where more words may be named
-pub caused_as : (P Q : ℕ → Type 0) (old new : StoreState) (status : Status) → ((word : ℕ) → P word → Q word) → Caused P old new status → Caused Q old new status
-caused_as P Q old new status named cause = record {
-  refused = cause.refused;
-  formed = cause.formed;
-  read = cause.read;
-  write = cause.write;
-  missing = cause.missing;
-  word = λ word at. named word (cause.word word at);
-  binding = cause.binding;
-}
-
-rose_behind : (old between new : ℕ) → old ≤ between → Rose between new → Rose old new
-rose_behind old between new below (inl rose) = inl (omega arith)
-rose_behind old between new below (inr last) = inr last
-
--- and it is owed from before calls that only read
-pub caused_behind : (P : ℕ → Type 0) (old between new : StoreState) (status : Status) → OnlyReads old between → Caused P between new status → Caused P old new status
-caused_behind P old between new status keeps cause = record {
-  refused = cause.refused;
-  formed = cause.formed;
-  read = λ word fault. rose_behind old.faults between.faults new.faults keeps.faults (cause.read word fault);
-  write = λ fault. subst (λ (count : ℕ). Rose count new.write_faults) keeps.write_faults (cause.write fault);
-  missing = λ word fault. rose_behind old.misses between.misses new.misses keeps.misses (cause.missing word fault);
-  word = cause.word;
-  binding = cause.binding;
-}
-
--- what is answered where a file can't be written is brought about by no word and no file
-pub unwritten_is_fault : (fault : StoreFault) → IsFault (write_status fault)
-unwritten_is_fault store.Memory = tt
-unwritten_is_fault store.Failed = tt
-unwritten_is_fault store.Missing = tt
-
--- ---- the text
 -- there are as many slots as coefficients, each below the plaintext modulus
 length-slots_of : (set : SetName) (a : ℕ → ℤ) → length (slots_of set a) ≡ degree_of set
 unfolding slots

@@ -96,7 +96,7 @@ cipher_head public bound words = record {
 }
 
 -- the text of a cipher that seals values is that of a fresh one
-fresh_text : (public : Head) (content : FileContent) (n : ℕ) (bound : Bound) (count : ℕ) (rows : List (List ℕ)) (listed seed : List ℕ) → n ≡ degree_of public.set
+pub fresh_text : (public : Head) (content : FileContent) (n : ℕ) (bound : Bound) (count : ℕ) (rows : List (List ℕ)) (listed seed : List ℕ) → n ≡ degree_of public.set
     → IsHeadOf public content → IsUp (fresh_bound (degree_of public.set) (plain_of public.set) greatest_error) bound.m bound.e
     → IsSealing public.set (stored_word (degree_of public.set) (length (data_of public.set)) content.words) listed (seed_word seed)
     (listed_word (length (data_of public.set)) rows)
@@ -127,25 +127,3 @@ fresh_text public content n bound count rows listed seed degree head rounded sea
       bound = rounded;
       text = ap (λ (words : List ℕ). file_text (content_with (cipher_head public bound count) words)) same;
     }
-
--- the file of a cipher that seals values was written
-pub wrote_fresh : (name word : List ℕ) (told after : Option Files) (before : Files) (public : Head) (content : FileContent) (n : ℕ) (bound : Bound) (count : ℕ)
-    (rows : List (List ℕ)) (listed seed : List ℕ) → name ≡ word → told ≡ Some before
-    → after ≡ with_file told name (file_text (content_with (cipher_head public bound count) (part_words n public.set 2 rows)))
-    → n ≡ degree_of public.set → IsHeadOf public content → IsUp (fresh_bound (degree_of public.set) (plain_of public.set) greatest_error) bound.m bound.e
-    → IsSealing public.set (stored_word (degree_of public.set) (length (data_of public.set)) content.words) listed (seed_word seed)
-    (listed_word (length (data_of public.set)) rows)
-    → Wrote {T = Unit {0}} word before after (IsFreshCipher content listed seed) (Ok tt)
-wrote_fresh name word told after before public content n bound count rows listed seed named told_is after_is degree head rounded sealing = record {
-  ok = (
-    text,
-    (
-      fresh_text public content n bound count rows listed seed degree head rounded sealing,
-      after_is ∙ ap (λ (files : Option Files). with_file files name text) told_is ∙ ap (λ (z : List ℕ). with_file (Some before) z text) named,
-    ),
-  );
-  err = tt;
-}
-  where
-    text : List ℕ
-    text = file_text (content_with (cipher_head public bound count) (part_words n public.set 2 rows))

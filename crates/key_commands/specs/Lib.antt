@@ -1,1 +1,2 @@
 pub mod Encrypted
+pub mod Decrypted

@@ -1,8 +1,6 @@
 // The command `decrypt`.
-ghost use Rattle.std.specs.Prelude.{◌≡◌, ◌≢◌, ◌*◌, ◌≤◌, ℕ, true, length, map, Some, None, OnErr, IfOk, IfErr};
-ghost use Rattle.std.specs.Option.{ForSome};
+ghost use Rattle.std.specs.Prelude.{◌≡◌, ◌⊎◌, ◌*◌, ◌≤◌, ℕ, true, length, map, Some, None, IfOk};
 ghost use Rattle.std.specs.String.{string_bytes};
-ghost use Rattle.outer_io.specs.Store.{OnlyReads};
 ghost use Rattle.set_table.specs.Sets.{degree_of, plain_of, data_of};
 ghost use Rattle.ring_law.specs.Moduli.{product};
 ghost use Rattle.ring_law.specs.Rows.{listed_polynomial, natural_polynomial};
@@ -12,12 +10,14 @@ ghost use Rattle.bfv_model.specs.Slots.{slots_of};
 ghost use Rattle.script_text.specs.Values.{printed_values};
 ghost use Rattle.file_model.specs.Heads.{HeadKeepsRules, wants};
 ghost use Rattle.file_model.specs.declared.head.Wanted.TheVariants as wanted;
-ghost use Rattle.command_words.specs.Form.{form_of, IsOperand};
+ghost use Rattle.bfv_params.specs.Ciphers.{IsCipherOf};
+ghost use Rattle.command_words.specs.Form.{form_of};
 ghost use Rattle.command_words.specs.declared.form.Form.TheVariants as form;
-ghost use Rattle.command_model.specs.Batches.{NoCountFell};
+ghost use Rattle.command_model.specs.Commanded.{Commanded};
 ghost use Rattle.command_model.specs.Plan as plan;
-ghost use Rattle.command_stages.specs.Operands.{HasContent, Gives};
-ghost use Rattle.command_stages.specs.Stages.{Ran, Caused, IsDecryption};
+ghost use Rattle.command_stages.specs.Operands.{HasContent};
+ghost use Rattle.command_stages.specs.Stages.{Made};
+ghost use Rattle.key_commands.specs.Decrypted.{IsDecryption};
 
 use crate::reread::{cipher_again, secret_again};
 use crate::writing::write_status;
@@ -36,29 +36,12 @@ use std::alloc::{AllocError, Global};
 pub fn decrypt<S: Store>(alloc: Global, words: &[String], store: &mut S) -> Result<(), Status>
     requires form { form_of (map string_bytes words.now) ≡ Some form.Decrypt }
     requires count { length words.now ≡ 4 }
-    requires idle { (S.state store.old).pending ≡ None }
-    ensures idle { (S.state store.new).pending ≡ None }
-    ensures counts { NoCountFell (S.state store.old) (S.state store.new) }
-    ensures told { ForSome (S.state store.old).files (λ files. Ran form.Decrypt (map string_bytes words.now) files (S.state store.new).files result) }
-    ensures unchanged { OnErr result ((S.state store.new).files ≡ (S.state store.old).files) }
-    ensures cause { IfErr result (λ s. Caused (IsOperand form.Decrypt 4) (S.state store.old) (S.state store.new) s) }
+    ensures { Commanded (map string_bytes words.now) (λ _. None) (S.state store.old) (S.state store.new) result }
 {
-    let secret = match scan_operand(store, words, Wanted::Secret, 1) {
-        Ok(secret) => secret,
-        Err(status) => return Err(status),
-    };
-    let cipher = match scan_operand(store, words, Wanted::Cipher, 2) {
-        Ok(cipher) => cipher,
-        Err(status) => return Err(status),
-    };
-    match match_heads(2, &cipher, &secret) {
-        Ok(()) => {}
-        Err(status) => return Err(status),
-    }
-    let text = match opened_text(alloc, words, store, &secret, &cipher) {
-        Ok(text) => text,
-        Err(status) => return Err(status),
-    };
+    let secret = scan_operand(store, words, Wanted::Secret, 1)?;
+    let cipher = scan_operand(store, words, Wanted::Cipher, 2)?;
+    match_heads(2, &cipher, &secret)?;
+    let text = opened_text(alloc, words, store, &secret, &cipher)?;
     match write_file(store, name_of(words, 3), &text) {
         Ok(()) => Ok(()),
         Err(fault) => Err(write_status(fault)),
@@ -79,13 +62,9 @@ fn opened_text<S: Store>(
     requires cipher_rules { HeadKeepsRules cipher.now }
     requires cipher_kind { wants wanted.Cipher cipher.now.kind ≡ true }
     requires set { cipher.now.set ≡ secret.now.set }
-    ensures keeps { OnlyReads (S.state store.old) (S.state store.new) }
-    ensures told { ForSome (S.state store.old).files (λ files. (a b : FileContent)
-        → HasContent (map string_bytes words.now) files 1 secret.now a
-        → HasContent (map string_bytes words.now) files 2 cipher.now b
-        → Gives result (λ text. IsDecryption a b text.items)) }
-    ensures cause { IfErr result (λ s. Caused (IsOperand form.Decrypt 4) (S.state store.old) (S.state store.new) s) }
-    ensures reads { IfErr result (λ s. s ≢ Status.WriteFault) }
+    ensures { (a b : FileContent) → Made (λ w. (w ≡ 1) ⊎ (w ≡ 2))
+        (λ files. HasContent (map string_bytes words.now) files 1 secret.now a × HasContent (map string_bytes words.now) files 2 cipher.now b)
+        (λ text. IsDecryption a b text.items) (S.state store.old) (S.state store.new) result }
 {
     match secret.set {
         SetName::One16 | SetName::Toy16 => text_of_degree::<S, 16>(
@@ -112,25 +91,15 @@ fn text_of_degree<S: Store, const N: usize>(
     requires cipher_kind { wants wanted.Cipher cipher.now.kind ≡ true }
     requires set { cipher.now.set ≡ secret.now.set }
     requires degree { N ≡ degree_of secret.now.set }
-    ensures keeps { OnlyReads (S.state store.old) (S.state store.new) }
-    ensures told { ForSome (S.state store.old).files (λ files. (a b : FileContent)
-        → HasContent (map string_bytes words.now) files 1 secret.now a
-        → HasContent (map string_bytes words.now) files 2 cipher.now b
-        → Gives result (λ text. IsDecryption a b text.items)) }
-    ensures cause { IfErr result (λ s. Caused (IsOperand form.Decrypt 4) (S.state store.old) (S.state store.new) s) }
-    ensures reads { IfErr result (λ s. s ≢ Status.WriteFault) }
+    ensures { (a b : FileContent) → Made (λ w. (w ≡ 1) ⊎ (w ≡ 2))
+        (λ files. HasContent (map string_bytes words.now) files 1 secret.now a × HasContent (map string_bytes words.now) files 2 cipher.now b)
+        (λ text. IsDecryption a b text.items) (S.state store.old) (S.state store.new) result }
 {
     let Ok(ctx) = Context::<N>::new(alloc, secret.set) else {
         return Err(Status::Memory);
     };
-    let source = match secret_again(alloc, words, store, &ctx, secret, 1) {
-        Ok(source) => source,
-        Err(status) => return Err(status),
-    };
-    let sealed = match cipher_again(alloc, words, store, &ctx, cipher, 2) {
-        Ok(sealed) => sealed,
-        Err(status) => return Err(status),
-    };
+    let source = secret_again(alloc, words, store, &ctx, secret, 1)?;
+    let sealed = cipher_again(alloc, words, store, &ctx, cipher, 2)?;
     match decrypted_text(alloc, &ctx, &source, &sealed) {
         Ok(text) => Ok(text),
         Err(_) => Err(Status::Memory),
@@ -145,8 +114,7 @@ fn decrypted_text<const N: usize>(
     cipher: &Cipher<N>,
 ) -> Result<Vec<u8>, AllocError>
     requires secret_set { (secret.now).set ≡ (ctx.now).set }
-    requires cipher_set { (cipher.now).set ≡ (ctx.now).set }
-    requires cipher_level { (cipher.now).level ≡ (ctx.now).level }
+    requires cipher_of { IsCipherOf (ctx.now) (cipher.now) }
     requires level { (ctx.now).level ≡ length (data_of (ctx.now).set) }
     ensures text { IfOk result (λ text. plan.IsValuesText (ctx.now).set text.items) }
     ensures right { (m : ℕ → ℕ) (bound : ℕ)

@@ -1,21 +1,20 @@
 // The command `encrypt`.
-ghost use Rattle.std.specs.Prelude.{◌≡◌, ◌≢◌, ◌<◌, true, length, map, Some, None, OnErr, IfOk, IfErr};
-ghost use Rattle.std.specs.Option.{ForSome};
+ghost use Rattle.std.specs.Prelude.{◌≡◌, ◌<◌, true, length, map, Some, None, IfOk};
 ghost use Rattle.std.specs.String.{string_bytes};
-ghost use Rattle.outer_io.specs.Store.{OnlyReads};
 ghost use Rattle.set_table.specs.Sets.{degree_of, data_of};
 ghost use Rattle.file_model.specs.FileText.{FileContent};
 ghost use Rattle.bfv_model.specs.Holds.{listed_word, stored_word};
 ghost use Rattle.file_model.specs.Heads.{HeadKeepsRules, wants};
 ghost use Rattle.file_model.specs.declared.head.Wanted.TheVariants as wanted;
-ghost use Rattle.command_words.specs.Form.{form_of, IsOperand};
+ghost use Rattle.bfv_params.specs.Ciphers.{IsCipherOf};
+ghost use Rattle.command_words.specs.Form.{form_of};
 ghost use Rattle.command_words.specs.Line.{word_at};
 ghost use Rattle.command_words.specs.declared.form.Form.TheVariants as form;
-ghost use Rattle.command_model.specs.Batches.{NoCountFell};
+ghost use Rattle.command_model.specs.Commanded.{Commanded};
 ghost use Rattle.command_model.specs.Plan as plan;
-ghost use Rattle.command_stages.specs.Operands.{HasContent, Gives, AreValues};
+ghost use Rattle.command_stages.specs.Operands.{HasContent, AreValues};
+ghost use Rattle.command_stages.specs.Stages.{Made, Wrote};
 ghost use Rattle.key_commands.specs.Encrypted.{IsSealing};
-ghost use Rattle.command_stages.specs.Stages.{Ran, Wrote, Caused};
 
 use crate::reread::public_again;
 use crate::writing::write_status;
@@ -36,25 +35,11 @@ use std::alloc::{AllocError, Global};
 pub fn encrypt<S: Store>(alloc: Global, words: &[String], store: &mut S) -> Result<(), Status>
     requires form { form_of (map string_bytes words.now) ≡ Some form.Encrypt }
     requires count { length words.now ≡ 5 }
-    requires idle { (S.state store.old).pending ≡ None }
-    ensures idle { (S.state store.new).pending ≡ None }
-    ensures counts { NoCountFell (S.state store.old) (S.state store.new) }
-    ensures told { ForSome (S.state store.old).files (λ files. Ran form.Encrypt (map string_bytes words.now) files (S.state store.new).files result) }
-    ensures unchanged { OnErr result ((S.state store.new).files ≡ (S.state store.old).files) }
-    ensures cause { IfErr result (λ s. Caused (IsOperand form.Encrypt 5) (S.state store.old) (S.state store.new) s) }
+    ensures { Commanded (map string_bytes words.now) (λ _. None) (S.state store.old) (S.state store.new) result }
 {
-    let public = match scan_operand(store, words, Wanted::Public, 1) {
-        Ok(public) => public,
-        Err(status) => return Err(status),
-    };
-    let seed = match read_seed(store, words, 2) {
-        Ok(seed) => seed,
-        Err(status) => return Err(status),
-    };
-    let values = match read_values_operand(alloc, store, words, public.set, 3) {
-        Ok(values) => values,
-        Err(status) => return Err(status),
-    };
+    let public = scan_operand(store, words, Wanted::Public, 1)?;
+    let seed = read_seed(store, words, 2)?;
+    let values = read_values_operand(alloc, store, words, public.set, 3)?;
     write_sealed(alloc, words, store, &public, &seed, &values)
 }
 
@@ -72,15 +57,8 @@ fn write_sealed<S: Store>(
     requires rules { HeadKeepsRules public.now }
     requires kind { wants wanted.Public public.now.kind ≡ true }
     requires values { AreValues public.now.set values.now }
-    requires idle { (S.state store.old).pending ≡ None }
-    ensures idle { (S.state store.new).pending ≡ None }
-    ensures counts { NoCountFell (S.state store.old) (S.state store.new) }
-    ensures unchanged { OnErr result ((S.state store.new).files ≡ (S.state store.old).files) }
-    ensures told { ForSome (S.state store.old).files (λ files. (content : FileContent)
-        → HasContent (map string_bytes words.now) files 1 public.now content
-        → Wrote (word_at (map string_bytes words.now) 4) files (S.state store.new).files
-        (plan.IsFreshCipher content values.now seed.now) result) }
-    ensures cause { IfErr result (λ s. Caused (λ w. w ≡ 1) (S.state store.old) (S.state store.new) s) }
+    ensures { (content : FileContent) → Wrote (word_at (map string_bytes words.now) 4) (λ w. w ≡ 1) (λ files. HasContent (map string_bytes words.now) files 1 public.now content)
+        (plan.IsFreshCipher content values.now seed.now) (S.state store.old) (S.state store.new) result }
 {
     match public.set {
         SetName::One16 | SetName::Toy16 => write_of_degree::<S, 16>(
@@ -106,20 +84,10 @@ fn write_of_degree<S: Store, const N: usize>(
     requires kind { wants wanted.Public public.now.kind ≡ true }
     requires degree { N ≡ degree_of public.now.set }
     requires values { AreValues public.now.set values.now }
-    requires idle { (S.state store.old).pending ≡ None }
-    ensures idle { (S.state store.new).pending ≡ None }
-    ensures counts { NoCountFell (S.state store.old) (S.state store.new) }
-    ensures unchanged { OnErr result ((S.state store.new).files ≡ (S.state store.old).files) }
-    ensures told { ForSome (S.state store.old).files (λ files. (content : FileContent)
-        → HasContent (map string_bytes words.now) files 1 public.now content
-        → Wrote (word_at (map string_bytes words.now) 4) files (S.state store.new).files
-        (plan.IsFreshCipher content values.now seed.now) result) }
-    ensures cause { IfErr result (λ s. Caused (λ w. w ≡ 1) (S.state store.old) (S.state store.new) s) }
+    ensures { (content : FileContent) → Wrote (word_at (map string_bytes words.now) 4) (λ w. w ≡ 1) (λ files. HasContent (map string_bytes words.now) files 1 public.now content)
+        (plan.IsFreshCipher content values.now seed.now) (S.state store.old) (S.state store.new) result }
 {
-    let cipher = match sealed::<S, N>(alloc, words, store, public, seed, values) {
-        Ok(cipher) => cipher,
-        Err(status) => return Err(status),
-    };
+    let cipher = sealed::<S, N>(alloc, words, store, public, seed, values)?;
     let head = Head::of_cipher(public.set, 2, public.id, fresh(public.set));
     match write_cipher(store, name_of(words, 4), &head, &cipher) {
         Ok(()) => Ok(()),
@@ -141,24 +109,17 @@ fn sealed<S: Store, const N: usize>(
     requires kind { wants wanted.Public public.now.kind ≡ true }
     requires degree { N ≡ degree_of public.now.set }
     requires values { AreValues public.now.set values.now }
-    ensures keeps { OnlyReads (S.state store.old) (S.state store.new) }
     ensures set { IfOk result (λ cipher. cipher.set ≡ public.now.set) }
     ensures level { IfOk result (λ cipher. cipher.level ≡ length (data_of public.now.set)) }
     ensures parts { IfOk result (λ cipher. cipher.parts ≡ 2) }
-    ensures told { ForSome (S.state store.old).files (λ files. (content : FileContent)
-        → HasContent (map string_bytes words.now) files 1 public.now content
-        → Gives result (λ cipher. IsSealing public.now.set (stored_word (degree_of public.now.set) (length (data_of public.now.set)) content.words)
-        values.now (plan.seed_word seed.now) (listed_word (length (data_of public.now.set)) cipher.rows))) }
-    ensures cause { IfErr result (λ s. Caused (λ w. w ≡ 1) (S.state store.old) (S.state store.new) s) }
-    ensures reads { IfErr result (λ s. s ≢ Status.WriteFault) }
+    ensures made { (content : FileContent) → Made (λ w. w ≡ 1) (λ files. HasContent (map string_bytes words.now) files 1 public.now content)
+        (λ cipher. IsSealing public.now.set (stored_word (degree_of public.now.set) (length (data_of public.now.set)) content.words)
+        values.now (plan.seed_word seed.now) (listed_word (length (data_of public.now.set)) cipher.rows)) (S.state store.old) (S.state store.new) result }
 {
     let Ok(ctx) = Context::<N>::new(alloc, public.set) else {
         return Err(Status::Memory);
     };
-    let key = match public_again(alloc, words, store, &ctx, public, 1) {
-        Ok(key) => key,
-        Err(status) => return Err(status),
-    };
+    let key = public_again(alloc, words, store, &ctx, public, 1)?;
     match sealed_under(alloc, &ctx, &key, seed, values) {
         Ok(cipher) => Ok(cipher),
         Err(_) => Err(Status::Memory),
@@ -176,8 +137,7 @@ fn sealed_under<const N: usize>(
     requires level { (ctx.now).level ≡ length (data_of (ctx.now).set) }
     requires set { (public.now).set ≡ (ctx.now).set }
     requires values { AreValues (ctx.now).set values.now }
-    ensures set { IfOk result (λ cipher. cipher.set ≡ (ctx.now).set) }
-    ensures level { IfOk result (λ cipher. cipher.level ≡ (ctx.now).level) }
+    ensures of_context { IfOk result (λ cipher. IsCipherOf (ctx.now) cipher) }
     ensures parts { IfOk result (λ cipher. cipher.parts ≡ 2) }
     ensures sealing { IfOk result (λ cipher. IsSealing (ctx.now).set (listed_word (length (data_of (ctx.now).set)) (public.now).rows)
         values.now (plan.seed_word seed.now) (listed_word (length (data_of (ctx.now).set)) cipher.rows)) }

@@ -1,8 +1,6 @@
 // The command `public`.
-ghost use Rattle.std.specs.Prelude.{◌≡◌, ◌≢◌, ◌<◌, ℕ, true, length, map, Some, None, OnErr, IfOk, IfErr};
-ghost use Rattle.std.specs.Option.{ForSome};
+ghost use Rattle.std.specs.Prelude.{◌≡◌, ◌<◌, ℕ, true, length, map, Some, None, IfOk};
 ghost use Rattle.std.specs.String.{string_bytes};
-ghost use Rattle.outer_io.specs.Store.{OnlyReads};
 ghost use Rattle.set_table.specs.Sets.{degree_of, data_of};
 ghost use Rattle.ring_law.specs.Rows.{listed_polynomial};
 ghost use Rattle.bfv_model.specs.Drawn.{drawn_public};
@@ -11,13 +9,13 @@ ghost use Rattle.file_model.specs.FileText.{FileContent, file_text};
 ghost use Rattle.bfv_model.specs.Holds.{listed_word, secret_polynomial};
 ghost use Rattle.file_model.specs.Heads.{HeadKeepsRules, wants};
 ghost use Rattle.file_model.specs.declared.head.Wanted.TheVariants as wanted;
-ghost use Rattle.command_words.specs.Form.{form_of, IsOperand};
+ghost use Rattle.command_words.specs.Form.{form_of};
 ghost use Rattle.command_words.specs.Line.{word_at};
 ghost use Rattle.command_words.specs.declared.form.Form.TheVariants as form;
-ghost use Rattle.command_model.specs.Batches.{NoCountFell};
+ghost use Rattle.command_model.specs.Commanded.{Commanded};
 ghost use Rattle.command_model.specs.Plan as plan;
-ghost use Rattle.command_stages.specs.Operands.{HasContent, Gives};
-ghost use Rattle.command_stages.specs.Stages.{Ran, Wrote, Caused};
+ghost use Rattle.command_stages.specs.Operands.{HasContent};
+ghost use Rattle.command_stages.specs.Stages.{Made, Wrote};
 
 use crate::reread::secret_again;
 use crate::writing::write_status;
@@ -36,21 +34,10 @@ use std::alloc::{AllocError, Global};
 pub fn public<S: Store>(alloc: Global, words: &[String], store: &mut S) -> Result<(), Status>
     requires form { form_of (map string_bytes words.now) ≡ Some form.Public }
     requires count { length words.now ≡ 4 }
-    requires idle { (S.state store.old).pending ≡ None }
-    ensures idle { (S.state store.new).pending ≡ None }
-    ensures counts { NoCountFell (S.state store.old) (S.state store.new) }
-    ensures told { ForSome (S.state store.old).files (λ files. Ran form.Public (map string_bytes words.now) files (S.state store.new).files result) }
-    ensures unchanged { OnErr result ((S.state store.new).files ≡ (S.state store.old).files) }
-    ensures cause { IfErr result (λ s. Caused (IsOperand form.Public 4) (S.state store.old) (S.state store.new) s) }
+    ensures { Commanded (map string_bytes words.now) (λ _. None) (S.state store.old) (S.state store.new) result }
 {
-    let secret = match scan_operand(store, words, Wanted::Secret, 1) {
-        Ok(secret) => secret,
-        Err(status) => return Err(status),
-    };
-    let seed = match read_seed(store, words, 2) {
-        Ok(seed) => seed,
-        Err(status) => return Err(status),
-    };
+    let secret = scan_operand(store, words, Wanted::Secret, 1)?;
+    let seed = read_seed(store, words, 2)?;
     write_drawn(alloc, words, store, &secret, &seed)
 }
 
@@ -65,15 +52,8 @@ fn write_drawn<S: Store>(
     requires count { length words.now ≡ 4 }
     requires rules { HeadKeepsRules secret.now }
     requires kind { wants wanted.Secret secret.now.kind ≡ true }
-    requires idle { (S.state store.old).pending ≡ None }
-    ensures idle { (S.state store.new).pending ≡ None }
-    ensures counts { NoCountFell (S.state store.old) (S.state store.new) }
-    ensures unchanged { OnErr result ((S.state store.new).files ≡ (S.state store.old).files) }
-    ensures told { ForSome (S.state store.old).files (λ files. (content : FileContent)
-        → HasContent (map string_bytes words.now) files 1 secret.now content
-        → Wrote (word_at (map string_bytes words.now) 3) files (S.state store.new).files
-        (λ bytes. bytes ≡ file_text (drawn_public_file content (plan.seed_word seed.now))) result) }
-    ensures cause { IfErr result (λ s. Caused (λ w. w ≡ 1) (S.state store.old) (S.state store.new) s) }
+    ensures { (content : FileContent) → Wrote (word_at (map string_bytes words.now) 3) (λ w. w ≡ 1) (λ files. HasContent (map string_bytes words.now) files 1 secret.now content)
+        (λ bytes. bytes ≡ file_text (drawn_public_file content (plan.seed_word seed.now))) (S.state store.old) (S.state store.new) result }
 {
     match secret.set {
         SetName::One16 | SetName::Toy16 => write_of_degree::<S, 16>(
@@ -97,20 +77,10 @@ fn write_of_degree<S: Store, const N: usize>(
     requires rules { HeadKeepsRules secret.now }
     requires kind { wants wanted.Secret secret.now.kind ≡ true }
     requires degree { N ≡ degree_of secret.now.set }
-    requires idle { (S.state store.old).pending ≡ None }
-    ensures idle { (S.state store.new).pending ≡ None }
-    ensures counts { NoCountFell (S.state store.old) (S.state store.new) }
-    ensures unchanged { OnErr result ((S.state store.new).files ≡ (S.state store.old).files) }
-    ensures told { ForSome (S.state store.old).files (λ files. (content : FileContent)
-        → HasContent (map string_bytes words.now) files 1 secret.now content
-        → Wrote (word_at (map string_bytes words.now) 3) files (S.state store.new).files
-        (λ bytes. bytes ≡ file_text (drawn_public_file content (plan.seed_word seed.now))) result) }
-    ensures cause { IfErr result (λ s. Caused (λ w. w ≡ 1) (S.state store.old) (S.state store.new) s) }
+    ensures { (content : FileContent) → Wrote (word_at (map string_bytes words.now) 3) (λ w. w ≡ 1) (λ files. HasContent (map string_bytes words.now) files 1 secret.now content)
+        (λ bytes. bytes ≡ file_text (drawn_public_file content (plan.seed_word seed.now))) (S.state store.old) (S.state store.new) result }
 {
-    let public = match drawn_key::<S, N>(alloc, words, store, secret, seed) {
-        Ok(public) => public,
-        Err(status) => return Err(status),
-    };
+    let public = drawn_key::<S, N>(alloc, words, store, secret, seed)?;
     let head = Head::of_public(secret.set, secret.id);
     match write_public(store, name_of(words, 3), &head, &public) {
         Ok(()) => Ok(()),
@@ -130,23 +100,17 @@ fn drawn_key<S: Store, const N: usize>(
     requires rules { HeadKeepsRules secret.now }
     requires kind { wants wanted.Secret secret.now.kind ≡ true }
     requires degree { N ≡ degree_of secret.now.set }
-    ensures keeps { OnlyReads (S.state store.old) (S.state store.new) }
     ensures set { IfOk result (λ public. public.set ≡ secret.now.set) }
-    ensures told { ForSome (S.state store.old).files (λ files. (content : FileContent)
-        → HasContent (map string_bytes words.now) files 1 secret.now content
-        → Gives result (λ public. (part i k : ℕ) → part < 2 → i < length (data_of secret.now.set) → k < N
+    ensures made { (content : FileContent) → Made (λ w. w ≡ 1) (λ files. HasContent (map string_bytes words.now) files 1 secret.now content)
+        (λ public. (part i k : ℕ) → part < 2 → i < length (data_of secret.now.set) → k < N
         → listed_word (length (data_of secret.now.set)) public.rows part i k
-        ≡ drawn_public N (data_of secret.now.set) (secret_polynomial content.words) (plan.seed_word seed.now) part i k)) }
-    ensures cause { IfErr result (λ s. Caused (λ w. w ≡ 1) (S.state store.old) (S.state store.new) s) }
-    ensures reads { IfErr result (λ s. s ≢ Status.WriteFault) }
+        ≡ drawn_public N (data_of secret.now.set) (secret_polynomial content.words) (plan.seed_word seed.now) part i k)
+        (S.state store.old) (S.state store.new) result }
 {
     let Ok(ctx) = Context::<N>::new(alloc, secret.set) else {
         return Err(Status::Memory);
     };
-    let source = match secret_again(alloc, words, store, &ctx, secret, 1) {
-        Ok(source) => source,
-        Err(status) => return Err(status),
-    };
+    let source = secret_again(alloc, words, store, &ctx, secret, 1)?;
     match key_of(alloc, &ctx, &source, seed) {
         Ok(public) => Ok(public),
         Err(_) => Err(Status::Memory),

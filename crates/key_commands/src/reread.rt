@@ -1,16 +1,14 @@
 // The words of the files that were scanned, read again.
-ghost use Rattle.std.specs.Prelude.{◌≡◌, ◌≢◌, ℕ, ◌<◌, true, length, map, IfOk, IfErr};
-ghost use Rattle.std.specs.Option.{ForSome};
+ghost use Rattle.std.specs.Prelude.{◌≡◌, ℕ, ◌<◌, true, length, map, IfOk};
 ghost use Rattle.std.specs.String.{string_bytes};
-ghost use Rattle.outer_io.specs.Store.{OnlyReads};
 ghost use Rattle.set_table.specs.Sets.{data_of};
 ghost use Rattle.ring_law.specs.Rows.{listed_polynomial};
 ghost use Rattle.file_model.specs.FileText.{FileContent};
 ghost use Rattle.bfv_model.specs.Holds.{listed_word, stored_word, secret_polynomial};
 ghost use Rattle.file_model.specs.Heads.{HeadKeepsRules, wants};
 ghost use Rattle.file_model.specs.declared.head.Wanted.TheVariants as wanted;
-ghost use Rattle.command_stages.specs.Operands.{HasContent, Gives};
-ghost use Rattle.command_stages.specs.Stages.{Caused};
+ghost use Rattle.command_stages.specs.Operands.{HasContent};
+ghost use Rattle.command_stages.specs.Stages.{Made};
 
 use bfv_params::{Cipher, Context, Public, Secret};
 use cipher_files::{Head, read_cipher, read_public, read_secret};
@@ -32,13 +30,9 @@ pub fn secret_again<S: Store, const N: usize>(
     requires rules { HeadKeepsRules head.now }
     requires kind { wants wanted.Secret head.now.kind ≡ true }
     requires set { (ctx.now).set ≡ head.now.set }
-    ensures keeps { OnlyReads (S.state store.old) (S.state store.new) }
-    ensures cause { IfErr result (λ s. Caused (λ w. w ≡ word) (S.state store.old) (S.state store.new) s) }
-    ensures reads { IfErr result (λ s. s ≢ Status.WriteFault) }
     ensures set { IfOk result (λ secret. secret.set ≡ head.now.set) }
-    ensures told { ForSome (S.state store.old).files (λ files. (content : FileContent)
-        → HasContent (map string_bytes words.now) files word head.now content
-        → Gives result (λ secret. (k : ℕ) → k < N → listed_polynomial secret.small k ≡ secret_polynomial content.words k)) }
+    ensures made { (content : FileContent) → Made (λ w. w ≡ word) (λ files. HasContent (map string_bytes words.now) files word head.now content)
+        (λ secret. (k : ℕ) → k < N → listed_polynomial secret.small k ≡ secret_polynomial content.words k) (S.state store.old) (S.state store.new) result }
 {
     let Ok(mut secret) = Secret::new(alloc, ctx) else {
         return Err(Status::Memory);
@@ -62,15 +56,11 @@ pub fn public_again<S: Store, const N: usize>(
     requires rules { HeadKeepsRules head.now }
     requires kind { wants wanted.Public head.now.kind ≡ true }
     requires set { (ctx.now).set ≡ head.now.set }
-    ensures keeps { OnlyReads (S.state store.old) (S.state store.new) }
-    ensures cause { IfErr result (λ s. Caused (λ w. w ≡ word) (S.state store.old) (S.state store.new) s) }
-    ensures reads { IfErr result (λ s. s ≢ Status.WriteFault) }
     ensures set { IfOk result (λ public. public.set ≡ head.now.set) }
-    ensures told { ForSome (S.state store.old).files (λ files. (content : FileContent)
-        → HasContent (map string_bytes words.now) files word head.now content
-        → Gives result (λ public. (j i k : ℕ) → j < 2 → i < length (data_of head.now.set) → k < N
+    ensures made { (content : FileContent) → Made (λ w. w ≡ word) (λ files. HasContent (map string_bytes words.now) files word head.now content)
+        (λ public. (j i k : ℕ) → j < 2 → i < length (data_of head.now.set) → k < N
         → listed_word (length (data_of head.now.set)) public.rows j i k
-        ≡ stored_word N (length (data_of head.now.set)) content.words j i k)) }
+        ≡ stored_word N (length (data_of head.now.set)) content.words j i k) (S.state store.old) (S.state store.new) result }
 {
     let Ok(mut public) = Public::new(alloc, ctx) else {
         return Err(Status::Memory);
@@ -95,17 +85,13 @@ pub fn cipher_again<S: Store, const N: usize>(
     requires kind { wants wanted.Cipher head.now.kind ≡ true }
     requires set { (ctx.now).set ≡ head.now.set }
     requires level { (ctx.now).level ≡ length (data_of head.now.set) }
-    ensures keeps { OnlyReads (S.state store.old) (S.state store.new) }
-    ensures cause { IfErr result (λ s. Caused (λ w. w ≡ word) (S.state store.old) (S.state store.new) s) }
-    ensures reads { IfErr result (λ s. s ≢ Status.WriteFault) }
     ensures set { IfOk result (λ cipher. cipher.set ≡ head.now.set) }
     ensures level { IfOk result (λ cipher. cipher.level ≡ length (data_of head.now.set)) }
     ensures parts { IfOk result (λ cipher. cipher.parts ≡ head.now.parts) }
-    ensures told { ForSome (S.state store.old).files (λ files. (content : FileContent)
-        → HasContent (map string_bytes words.now) files word head.now content
-        → Gives result (λ cipher. (j i k : ℕ) → j < 3 → i < length (data_of head.now.set) → k < N
+    ensures made { (content : FileContent) → Made (λ w. w ≡ word) (λ files. HasContent (map string_bytes words.now) files word head.now content)
+        (λ cipher. (j i k : ℕ) → j < 3 → i < length (data_of head.now.set) → k < N
         → listed_word (length (data_of head.now.set)) cipher.rows j i k
-        ≡ stored_word N (length (data_of head.now.set)) content.words j i k)) }
+        ≡ stored_word N (length (data_of head.now.set)) content.words j i k) (S.state store.old) (S.state store.new) result }
 {
     let Ok(mut cipher) = Cipher::new(alloc, ctx) else {
         return Err(Status::Memory);

@@ -1,6 +1,5 @@
 // The command `secret`.
-ghost use Rattle.std.specs.Prelude.{◌≡◌, length, map, Some, None, OnErr, IfOk, IfErr};
-ghost use Rattle.std.specs.Option.{ForSome};
+ghost use Rattle.std.specs.Prelude.{◌≡◌, length, map, Some, None, IfOk};
 ghost use Rattle.std.specs.String.{string_bytes};
 ghost use Rattle.set_table.specs.Sets.{degree_of};
 ghost use Rattle.file_model.specs.DrawnFiles.{drawn_secret_file};
@@ -8,11 +7,11 @@ ghost use Rattle.file_model.specs.FileText.{file_text};
 ghost use Rattle.file_model.specs.declared.file_kind.FileKind.TheVariants as kind;
 ghost use Rattle.cipher_files.specs.Contents.{secret_words};
 ghost use Rattle.file_model.specs.Heads.{HeadKeepsRules, content_with};
-ghost use Rattle.command_words.specs.Form.{form_of, IsOperand};
+ghost use Rattle.command_words.specs.Form.{form_of};
 ghost use Rattle.command_words.specs.declared.form.Form.TheVariants as form;
-ghost use Rattle.command_model.specs.Batches.{NoCountFell};
+ghost use Rattle.command_model.specs.Commanded.{Commanded};
 ghost use Rattle.command_model.specs.Plan as plan;
-ghost use Rattle.command_stages.specs.Stages.{Ran, Wrote, Caused};
+ghost use Rattle.command_stages.specs.Stages.{Wrote};
 
 use crate::writing::write_status;
 use bfv_params::{Context, Secret};
@@ -29,20 +28,12 @@ use std::alloc::{AllocError, Global};
 pub fn secret<S: Store>(alloc: Global, words: &[String], store: &mut S) -> Result<(), Status>
     requires form { form_of (map string_bytes words.now) ≡ Some form.Secret }
     requires count { length words.now ≡ 4 }
-    requires idle { (S.state store.old).pending ≡ None }
-    ensures idle { (S.state store.new).pending ≡ None }
-    ensures counts { NoCountFell (S.state store.old) (S.state store.new) }
-    ensures told { ForSome (S.state store.old).files (λ files. Ran form.Secret (map string_bytes words.now) files (S.state store.new).files result) }
-    ensures unchanged { OnErr result ((S.state store.new).files ≡ (S.state store.old).files) }
-    ensures cause { IfErr result (λ s. Caused (IsOperand form.Secret 4) (S.state store.old) (S.state store.new) s) }
+    ensures { Commanded (map string_bytes words.now) (λ _. None) (S.state store.old) (S.state store.new) result }
 {
     let Some(set) = SetName::from_text(name_of(words, 1)) else {
         unreachable!()
     };
-    let seed = match read_seed(store, words, 2) {
-        Ok(seed) => seed,
-        Err(status) => return Err(status),
-    };
+    let seed = read_seed(store, words, 2)?;
     write_drawn(alloc, store, name_of(words, 3), set, &seed)
 }
 
@@ -54,13 +45,8 @@ fn write_drawn<S: Store>(
     set: SetName,
     seed: &[u8; SEED_BYTES],
 ) -> Result<(), Status>
-    requires idle { (S.state store.old).pending ≡ None }
-    ensures idle { (S.state store.new).pending ≡ None }
-    ensures counts { NoCountFell (S.state store.old) (S.state store.new) }
-    ensures unchanged { OnErr result ((S.state store.new).files ≡ (S.state store.old).files) }
-    ensures told { ForSome (S.state store.old).files (λ files. Wrote name.now files (S.state store.new).files
-        (λ bytes. bytes ≡ file_text (drawn_secret_file set (plan.seed_word seed.now))) result) }
-    ensures cause { IfErr result (λ s. Caused (λ w. ⊥) (S.state store.old) (S.state store.new) s) }
+    ensures { Wrote name.now (λ w. ⊥) (λ files. Unit {0}) (λ bytes. bytes ≡ file_text (drawn_secret_file set (plan.seed_word seed.now)))
+        (S.state store.old) (S.state store.new) result }
 {
     match set {
         SetName::One16 | SetName::Toy16 => write_of_degree::<S, 16>(alloc, store, name, set, seed),
@@ -79,13 +65,8 @@ fn write_of_degree<S: Store, const N: usize>(
     seed: &[u8; SEED_BYTES],
 ) -> Result<(), Status>
     requires degree { N ≡ degree_of set }
-    requires idle { (S.state store.old).pending ≡ None }
-    ensures idle { (S.state store.new).pending ≡ None }
-    ensures counts { NoCountFell (S.state store.old) (S.state store.new) }
-    ensures unchanged { OnErr result ((S.state store.new).files ≡ (S.state store.old).files) }
-    ensures told { ForSome (S.state store.old).files (λ files. Wrote name.now files (S.state store.new).files
-        (λ bytes. bytes ≡ file_text (drawn_secret_file set (plan.seed_word seed.now))) result) }
-    ensures cause { IfErr result (λ s. Caused (λ w. ⊥) (S.state store.old) (S.state store.new) s) }
+    ensures { Wrote name.now (λ w. ⊥) (λ files. Unit {0}) (λ bytes. bytes ≡ file_text (drawn_secret_file set (plan.seed_word seed.now)))
+        (S.state store.old) (S.state store.new) result }
 {
     let Ok((head, secret)) = drawn::<N>(alloc, set, seed) else {
         return Err(Status::Memory);

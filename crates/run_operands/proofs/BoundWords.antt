@@ -16,7 +16,7 @@ use Rattle.command_words.specs.declared.status.BindingFault.{BindingFault}
 use Rattle.command_words.specs.declared.status.BindingFault.TheVariants.{Undeclared, Twice, Unbound}
 use Rattle.command_words.specs.declared.status.Status.TheVariants.{Binding}
 use Rattle.command_model.specs.Bindings.{bound_names, input_named, place_bound, binding_fault, first_binding_fault, unbound_input, fault_of_bindings}
-use Rattle.command_stages.specs.Stages.{Caused}
+use Rattle.command_model.specs.Commanded.{Caused}
 use Rattle.run_operands.proofs.Places.{position-map, first_of, rest_of}
 
 -- the place of a name among the words, as strings

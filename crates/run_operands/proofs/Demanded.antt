@@ -8,21 +8,22 @@ use Rattle.std.proofs.lemmas.Option.{slice_get-map}
 use borrow.Author.Tests.{eqb-true}
 use Rattle.file_model.proofs.Sets.{number_of-once}
 use Rattle.run_operands.proofs.Places.{drop_read}
-use Rattle.outer_io.specs.Store.{Files, StoreState}
+use Rattle.outer_io.specs.Store.{StoreState}
 use Rattle.set_table.specs.declared.SetName.{SetName}
 use Rattle.set_table.specs.Sets.{number_of}
 use Rattle.file_model.specs.declared.head.Head.{Head}
 use Rattle.script_text.specs.Scripts.{Script}
-use Rattle.command_words.specs.Form.{binding_file}
-use Rattle.command_words.specs.Line.{word_at}
+use Rattle.command_words.specs.Status.{parts_of}
 use Rattle.command_words.specs.declared.status.Status.{Status}
-use Rattle.command_words.specs.declared.status.Status.TheVariants.{SetMismatch, KeyMismatch, PartsMismatch, WriteFault, ReadFault}
+use Rattle.command_words.specs.declared.status.Status.TheVariants.{SetMismatch, KeyMismatch, PartsMismatch}
 use Rattle.command_model.specs.Bindings as bindings
 use Rattle.command_model.specs.Bindings.{bound_cipher, bound_values, first_key_id}
-use Rattle.command_model.specs.Plan.{set_refusal, parts_refusal, key_refusal, first_refusal, mismatch}
-use Rattle.run_operands.specs.BoundFiles.{IsOperandAt, AreOperands}
+use Rattle.command_model.specs.Plan.{of_cipher, other_set, other_parts, other_key, first_refusal, mismatch}
+use Rattle.run_operands.specs.BoundFiles.{IsSeen, AreSeen}
 use Rattle.run_operands.specs.Demands.{operand_seen, CiphersFit}
-use Rattle.command_stages.specs.Stages.{Caused}
+use Rattle.command_model.specs.Commanded.{Caused}
+use Rattle.command_stages.specs.Causes.{OwesNoCall}
+use Rattle.command_stages.proofs.Causes.{caused_by_no_call}
 use Rattle.run_operands.specs.declared.bound_files.Operand.{Operand}
 use Rattle.run_operands.specs.declared.bound_files.Operand.TheVariants.{Cipher, Values}
 
@@ -41,22 +42,22 @@ bare (bound_cipher content) = bound_cipher (record {
 })
 bare (bound_values listed) = bound_values listed
 
-bare_seen : (files : Files) (name : List ℕ) (operand : Operand) (planned : bindings.Operand) → IsOperandAt files name operand planned → operand_seen operand ≡ bare planned
-bare_seen files name (Cipher head) (bound_cipher content) is = sym (ap (λ c. bare (bound_cipher c)) is.head_is.states)
-bare_seen files name (Values listed) (bound_values values) is = ap bound_values is
-bare_seen files name (Cipher head) (bound_values values) is = absurd is
-bare_seen files name (Values listed) (bound_cipher content) is = absurd is
+bare_seen : (operand : Operand) (planned : bindings.Operand) → IsSeen operand planned → operand_seen operand ≡ bare planned
+bare_seen (Cipher head) (bound_cipher content) is = sym (ap (λ c. bare (bound_cipher c)) is.states)
+bare_seen (Values listed) (bound_values values) is = ap bound_values is
+bare_seen (Cipher head) (bound_values values) is = absurd is
+bare_seen (Values listed) (bound_cipher content) is = absurd is
 
-all_bare : (files : Files) (names : ℕ → List ℕ) (operands : List Operand) (planned : List bindings.Operand) → length operands ≡ length planned
-    → ((p : ℕ) (operand : Operand) → slice_get operands p ≡ Some operand → IsOperandAt files (names p) operand (slice_index_or planned p (bound_values [])))
+all_bare : (operands : List Operand) (planned : List bindings.Operand) → length operands ≡ length planned
+    → ((p : ℕ) (operand : Operand) → slice_get operands p ≡ Some operand → IsSeen operand (slice_index_or planned p (bound_values [])))
     → map operand_seen operands ≡ map bare planned
-all_bare files names [] [] count each = refl
-all_bare files names (operand ∷ operands) (one ∷ planned) count each =
-    let first = bare_seen files (names 0) operand one (each 0 operand refl) in
-    let rest = all_bare files (λ p. names (suc p)) operands planned (omega arith) (λ p other at. each (suc p) other at) in
+all_bare [] [] count each = refl
+all_bare (operand ∷ operands) (one ∷ planned) count each =
+    let first = bare_seen operand one (each 0 operand refl) in
+    let rest = all_bare operands planned (omega arith) (λ p other at. each (suc p) other at) in
     ap (λ o. o ∷ map operand_seen operands) first ∙ ap (λ os. bare one ∷ os) rest
-all_bare files names [] (one ∷ planned) count each = absurd (omega arith)
-all_bare files names (operand ∷ operands) [] count each = absurd (omega arith)
+all_bare [] (one ∷ planned) count each = absurd (omega arith)
+all_bare (operand ∷ operands) [] count each = absurd (omega arith)
 
 first_bare : (refusal : ℕ → bindings.Operand → Option Status) → ((word : ℕ) (operand : bindings.Operand) → refusal word (bare operand) ≡ refusal word operand)
     → (word : ℕ) (operands : List bindings.Operand) → first_refusal refusal word (map bare operands) ≡ first_refusal refusal word operands
@@ -65,15 +66,15 @@ first_bare refusal same word (operand ∷ operands) =
     ap (λ (f : Option Status). option_or f (first_refusal refusal (word + 1) (map bare operands))) (same word operand)
     ∙ ap (λ (f : Option Status). option_or (refusal word operand) f) (first_bare refusal same (word + 1) operands)
 
-set_bare : (set : SetName) (word : ℕ) (operand : bindings.Operand) → set_refusal set word (bare operand) ≡ set_refusal set word operand
+set_bare : (set : SetName) (word : ℕ) (operand : bindings.Operand) → of_cipher (other_set set) word (bare operand) ≡ of_cipher (other_set set) word operand
 set_bare set word (bound_cipher content) = refl
 set_bare set word (bound_values listed) = refl
 
-parts_bare : (word : ℕ) (operand : bindings.Operand) → parts_refusal word (bare operand) ≡ parts_refusal word operand
+parts_bare : (word : ℕ) (operand : bindings.Operand) → (of_cipher other_parts) word (bare operand) ≡ (of_cipher other_parts) word operand
 parts_bare word (bound_cipher content) = refl
 parts_bare word (bound_values listed) = refl
 
-key_bare : (id : List ℕ) (word : ℕ) (operand : bindings.Operand) → key_refusal id word (bare operand) ≡ key_refusal id word operand
+key_bare : (id : List ℕ) (word : ℕ) (operand : bindings.Operand) → of_cipher (other_key id) word (bare operand) ≡ of_cipher (other_key id) word operand
 key_bare id word (bound_cipher content) = refl
 key_bare id word (bound_values listed) = refl
 
@@ -85,28 +86,26 @@ id_bare (bound_values listed ∷ operands) = id_bare operands
 mismatch_bare : (script : Script) (operands : List bindings.Operand) → mismatch script (map bare operands) ≡ mismatch script operands
 mismatch_bare script operands =
     let all = map bare operands in
-    let keys = λ (id : List ℕ) (os : List bindings.Operand). first_refusal (key_refusal id) 3 os in
-    ap (λ (f : Option Status). option_or f (option_or (first_refusal parts_refusal 3 all) (keys (first_key_id all) all)))
-    (first_bare (set_refusal script.set) (set_bare script.set) 3 operands)
-    ∙ ap (λ (f : Option Status). option_or (first_refusal (set_refusal script.set) 3 operands) (option_or f (keys (first_key_id all) all)))
-    (first_bare parts_refusal parts_bare 3 operands)
-    ∙ ap (λ (id : List ℕ). option_or (first_refusal (set_refusal script.set) 3 operands) (option_or (first_refusal parts_refusal 3 operands) (keys id all)))
+    let keys = λ (id : List ℕ) (os : List bindings.Operand). first_refusal (of_cipher (other_key id)) 3 os in
+    ap (λ (f : Option Status). option_or f (option_or (first_refusal (of_cipher other_parts) 3 all) (keys (first_key_id all) all)))
+    (first_bare (of_cipher (other_set script.set)) (set_bare script.set) 3 operands)
+    ∙ ap (λ (f : Option Status). option_or (first_refusal (of_cipher (other_set script.set)) 3 operands) (option_or f (keys (first_key_id all) all)))
+    (first_bare (of_cipher other_parts) parts_bare 3 operands)
+    ∙ ap (λ (id : List ℕ). option_or (first_refusal (of_cipher (other_set script.set)) 3 operands) (option_or (first_refusal (of_cipher other_parts) 3 operands) (keys id all)))
     (id_bare operands)
-    ∙ ap (λ (f : Option Status). option_or (first_refusal (set_refusal script.set) 3 operands) (option_or (first_refusal parts_refusal 3 operands) f))
-    (first_bare (key_refusal (first_key_id operands)) (key_bare (first_key_id operands)) 3 operands)
+    ∙ ap (λ (f : Option Status). option_or (first_refusal (of_cipher (other_set script.set)) 3 operands) (option_or (first_refusal (of_cipher other_parts) 3 operands) f))
+    (first_bare (of_cipher (other_key (first_key_id operands))) (key_bare (first_key_id operands)) 3 operands)
 
-all_seen : (words : List (List ℕ)) (files : Files) (operands : List Operand) (planned : List bindings.Operand) → AreOperands words files operands planned
-    → map operand_seen operands ≡ map bare planned
-all_seen words files operands planned are = all_bare files (λ p. binding_file (word_at words (3 + p))) operands planned are.count are.each
+all_seen : (operands : List Operand) (planned : List bindings.Operand) → AreSeen operands planned → map operand_seen operands ≡ map bare planned
+all_seen operands planned are = all_bare operands planned are.count are.each
 
 -- what doesn't match is seen without the words of ciphers
-pub mismatch_seen : (script : Script) (words : List (List ℕ)) (files : Files) (operands : List Operand) (planned : List bindings.Operand)
-    → AreOperands words files operands planned → mismatch script (map operand_seen operands) ≡ mismatch script planned
-mismatch_seen script words files operands planned are = ap (mismatch script) (all_seen words files operands planned are) ∙ mismatch_bare script planned
+pub mismatch_seen : (script : Script) (operands : List Operand) (planned : List bindings.Operand) → AreSeen operands planned
+    → mismatch script (map operand_seen operands) ≡ mismatch script planned
+mismatch_seen script operands planned are = ap (mismatch script) (all_seen operands planned are) ∙ mismatch_bare script planned
 
-pub key_id_seen : (words : List (List ℕ)) (files : Files) (operands : List Operand) (planned : List bindings.Operand)
-    → AreOperands words files operands planned → first_key_id (map operand_seen operands) ≡ first_key_id planned
-key_id_seen words files operands planned are = ap first_key_id (all_seen words files operands planned are) ∙ id_bare planned
+pub key_id_seen : (operands : List Operand) (planned : List bindings.Operand) → AreSeen operands planned → first_key_id (map operand_seen operands) ≡ first_key_id planned
+key_id_seen operands planned are = ap first_key_id (all_seen operands planned are) ∙ id_bare planned
 
 -- ---- refusals
 
@@ -121,7 +120,7 @@ refusal_from refusal operands i operand at =
 
 -- where there is no cipher none is refused
 pub no_refusal : (id : List ℕ) (word : ℕ) (operands : List Operand) → ((p : ℕ) (head : Head) → slice_get operands p ≡ Some (Cipher head) → ⊥)
-    → first_refusal (key_refusal id) word (map operand_seen operands) ≡ None
+    → first_refusal (of_cipher (other_key id)) word (map operand_seen operands) ≡ None
 no_refusal id word [] none = refl
 no_refusal id word (Cipher head ∷ operands) none = absurd (none 0 head refl)
 no_refusal id word (Values listed ∷ operands) none = no_refusal id (word + 1) operands (λ p head at. none (suc p) head at)
@@ -145,15 +144,15 @@ refused_by : (passes : Bool) (refused status : Status) → cond passes None (Som
 refused_by true refused status is = absurd (cc)
 refused_by false refused status is = cc
 
-set_is : (set : SetName) (word : ℕ) (operand : bindings.Operand) (status : Status) → set_refusal set word operand ≡ Some status → IsMismatch word status
+set_is : (set : SetName) (word : ℕ) (operand : bindings.Operand) (status : Status) → of_cipher (other_set set) word operand ≡ Some status → IsMismatch word status
 set_is set word (bound_cipher content) status is = subst (IsMismatch word) (refused_by (number_of content.set == number_of set) (SetMismatch word content.set set) status is) refl
 set_is set word (bound_values listed) status is = absurd (cc)
 
-parts_is : (word : ℕ) (operand : bindings.Operand) (status : Status) → parts_refusal word operand ≡ Some status → IsMismatch word status
+parts_is : (word : ℕ) (operand : bindings.Operand) (status : Status) → (of_cipher other_parts) word operand ≡ Some status → IsMismatch word status
 parts_is word (bound_cipher content) status is = subst (IsMismatch word) (refused_by (content.parts == 2) (PartsMismatch word content.parts 2) status is) refl
 parts_is word (bound_values listed) status is = absurd (cc)
 
-key_is : (id : List ℕ) (word : ℕ) (operand : bindings.Operand) (status : Status) → key_refusal id word operand ≡ Some status → IsMismatch word status
+key_is : (id : List ℕ) (word : ℕ) (operand : bindings.Operand) (status : Status) → of_cipher (other_key id) word operand ≡ Some status → IsMismatch word status
 key_is id word (bound_cipher content) status is = subst (IsMismatch word) (refused_by (bytes_eq content.key_id id) (KeyMismatch word content.key_id id) status is) refl
 key_is id word (bound_values listed) status is = absurd (cc)
 
@@ -171,58 +170,42 @@ first_is refusal each from (operand ∷ operands) status is =
 
 mismatch_is : (script : Script) (operands : List bindings.Operand) (status : Status) → mismatch script operands ≡ Some status → IsMismatchWithin 3 (length operands) status
 mismatch_is script operands status is =
-    ⊎_elim (first_is (set_refusal script.set) (set_is script.set) 3 operands status)
-    (λ others. ⊎_elim (first_is parts_refusal parts_is 3 operands status) (first_is (key_refusal (first_key_id operands)) (key_is (first_key_id operands)) 3 operands status)
-    (either (first_refusal parts_refusal 3 operands) (first_refusal (key_refusal (first_key_id operands)) 3 operands) status others))
-    (either (first_refusal (set_refusal script.set) 3 operands)
-    (option_or (first_refusal parts_refusal 3 operands) (first_refusal (key_refusal (first_key_id operands)) 3 operands)) status is)
+    ⊎_elim (first_is (of_cipher (other_set script.set)) (set_is script.set) 3 operands status)
+    (λ others. ⊎_elim (first_is (of_cipher other_parts) parts_is 3 operands status) (first_is (of_cipher (other_key (first_key_id operands))) (key_is (first_key_id operands)) 3 operands status)
+    (either (first_refusal (of_cipher other_parts) 3 operands) (first_refusal (of_cipher (other_key (first_key_id operands))) 3 operands) status others))
+    (either (first_refusal (of_cipher (other_set script.set)) 3 operands)
+    (option_or (first_refusal (of_cipher other_parts) 3 operands) (first_refusal (of_cipher (other_key (first_key_id operands))) 3 operands)) status is)
 
-caused_by_mismatch : (word count : ℕ) (old new : StoreState) (status : Status) → IsMismatch word status → 3 ≤ word → word < count
-    → Caused (λ w. (3 ≤ w) × (w < count)) old new status
-caused_by_mismatch word count old new (SetMismatch at have want) is behind within = record {
-  refused = λ done. cc;
-  formed = λ usage. cc;
-  read = λ w fault. absurd (cc);
-  write = λ fault. absurd (cc);
-  missing = λ w fault. absurd (cc);
-  word = λ w named. let same : word ≡ w = cc in subst (λ (n : ℕ). (3 ≤ n) × (n < count)) same (behind, within);
-  binding = λ w named whole. absurd (cc);
-}
-caused_by_mismatch word count old new (KeyMismatch at have want) is behind within = record {
-  refused = λ done. cc;
-  formed = λ usage. cc;
-  read = λ w fault. absurd (cc);
-  write = λ fault. absurd (cc);
-  missing = λ w fault. absurd (cc);
-  word = λ w named. let same : word ≡ w = cc in subst (λ (n : ℕ). (3 ≤ n) × (n < count)) same (behind, within);
-  binding = λ w named whole. absurd (cc);
-}
-caused_by_mismatch word count old new (PartsMismatch at have want) is behind within = record {
-  refused = λ done. cc;
-  formed = λ usage. cc;
-  read = λ w fault. absurd (cc);
-  write = λ fault. absurd (cc);
-  missing = λ w fault. absurd (cc);
-  word = λ w named. let same : word ≡ w = cc in subst (λ (n : ℕ). (3 ≤ n) × (n < count)) same (behind, within);
-  binding = λ w named whole. absurd (cc);
-}
-caused_by_mismatch word count old new _ is behind within = absurd is
+no_call : (word : ℕ) (status : Status) → IsMismatch word status → OwesNoCall status
+no_call word (SetMismatch at have want) is = tt
+no_call word (KeyMismatch at have want) is = tt
+no_call word (PartsMismatch at have want) is = tt
+no_call word _ is = absurd is
 
--- what a mismatch owes to
+named : (word : ℕ) (status : Status) → IsMismatch word status → (w : ℕ) → (parts_of status).word ≡ Some w → w ≡ word
+named word (SetMismatch at have want) is w at_is = cc
+named word (KeyMismatch at have want) is w at_is = cc
+named word (PartsMismatch at have want) is w at_is = cc
+named word _ is w at_is = absurd is
+
+not_whole : (word : ℕ) (status : Status) → IsMismatch word status → (parts_of status).whole ≡ false
+not_whole word (SetMismatch at have want) is = refl
+not_whole word (KeyMismatch at have want) is = refl
+not_whole word (PartsMismatch at have want) is = refl
+not_whole word _ is = absurd is
+
+-- what a mismatch owes to: the word of a binding
 pub mismatch_caused : (script : Script) (operands : List Operand) (old new : StoreState) (status : Status) → mismatch script (map operand_seen operands) ≡ Some status
     → Caused (λ w. (3 ≤ w) × (w < 3 + length operands)) old new status
 mismatch_caused script operands old new status is =
     let found = mismatch_is script (map operand_seen operands) status is in
-    caused_by_mismatch found.0 (3 + length operands) old new status found.1.1.1 found.1.0 (omega (arith, found.1.1.0, length-map operands operand_seen))
+    let within : found.0 < 3 + length operands = omega (arith, found.1.1.0, length-map operands operand_seen) in
+    caused_by_no_call (λ w. (3 ≤ w) × (w < 3 + length operands)) old new status (no_call found.0 status found.1.1.1)
+    (λ w at. subst (λ (n : ℕ). (3 ≤ n) × (n < 3 + length operands)) (sym (named found.0 status found.1.1.1 w at)) (found.1.0, within))
+    (λ w at whole. let never : true ≡ false = sym whole ∙ not_whole found.0 status found.1.1.1 in absurd (cc))
 
--- a mismatch is no fault of the store
-pub mismatch_no_write : (script : Script) (operands : List Operand) (status : Status) → mismatch script (map operand_seen operands) ≡ Some status → status ≢ WriteFault
-mismatch_no_write script operands status is same =
-    let found = mismatch_is script (map operand_seen operands) status is in subst (IsMismatch found.0) same found.1.1.1
-
-pub mismatch_no_read : (script : Script) (operands : List Operand) (status : Status) → mismatch script (map operand_seen operands) ≡ Some status → (word : ℕ) → status ≢ ReadFault word
-mismatch_no_read script operands status is word same =
-    let found = mismatch_is script (map operand_seen operands) status is in subst (IsMismatch found.0) same found.1.1.1
+pub mismatch_no_call : (script : Script) (operands : List Operand) (status : Status) → mismatch script (map operand_seen operands) ≡ Some status → OwesNoCall status
+mismatch_no_call script operands status is = let found = mismatch_is script (map operand_seen operands) status is in no_call found.0 status found.1.1.1
 
 -- ---- ciphers that fit
 
@@ -243,12 +226,12 @@ none_refused refusal from (one ∷ operands) none (suc p) operand at =
 pub ciphers_fit : (script : Script) (operands : List Operand) → mismatch script (map operand_seen operands) ≡ None → CiphersFit script.set operands
 ciphers_fit script operands none p head at =
     let seen = map operand_seen operands in
-    let sets = neither (first_refusal (set_refusal script.set) 3 seen)
-    (option_or (first_refusal parts_refusal 3 seen) (first_refusal (key_refusal (first_key_id seen)) 3 seen)) none in
-    let parts = neither (first_refusal parts_refusal 3 seen) (first_refusal (key_refusal (first_key_id seen)) 3 seen) sets.1 in
+    let sets = neither (first_refusal (of_cipher (other_set script.set)) 3 seen)
+    (option_or (first_refusal (of_cipher other_parts) 3 seen) (first_refusal (of_cipher (other_key (first_key_id seen))) 3 seen)) none in
+    let parts = neither (first_refusal (of_cipher other_parts) 3 seen) (first_refusal (of_cipher (other_key (first_key_id seen))) 3 seen) sets.1 in
     let there : slice_get seen p ≡ Some (operand_seen (Cipher head)) = slice_get-map operand_seen operands p ∙ ap (option_map operand_seen) at in
-    let of_set = none_refused (set_refusal script.set) 3 seen sets.0 p (operand_seen (Cipher head)) there in
-    let of_parts = none_refused parts_refusal 3 seen parts.0 p (operand_seen (Cipher head)) there in (
+    let of_set = none_refused (of_cipher (other_set script.set)) 3 seen sets.0 p (operand_seen (Cipher head)) there in
+    let of_parts = none_refused (of_cipher other_parts) 3 seen parts.0 p (operand_seen (Cipher head)) there in (
       number_of-once head.set script.set (eqb-true (number_of head.set) (number_of script.set)
           (passed (number_of head.set == number_of script.set) (SetMismatch of_set.0 head.set script.set) of_set.1)),
       eqb-true head.parts 2 (passed (head.parts == 2) (PartsMismatch of_parts.0 head.parts 2) of_parts.1),

@@ -27,7 +27,7 @@ use Rattle.command_model.specs.Bindings as bindings
 use Rattle.command_model.specs.Bindings.{bound_names, place_bound, input_named, kind_at, first_binding_fault, unbound_input, fault_of_bindings, bound_cipher, bound_values, no_content, content_of, values_in, operand_of, ciphers_of}
 use Rattle.command_model.specs.Plan.{badly_bound}
 use Rattle.command_stages.specs.Operands.{HasContentAt}
-use Rattle.run_operands.specs.BoundFiles.{FitsKind, IsOperandAt, AreOperands, AreHeld, MayBeBound}
+use Rattle.run_operands.specs.BoundFiles.{FitsKind, IsSeen, AreSeen, IsOperandAt, AreOperands, AreHeld, IsStatedBy, AreStated, MayBeBound}
 use Rattle.run_operands.specs.Ordered.{CanRunOn, IsPlaceOf, IsCipherOf, AreValuesOf, ArePlainValues}
 use Rattle.run_operands.specs.declared.bound_files.BoundCipher.{BoundCipher}
 use Rattle.run_operands.specs.declared.bound_files.Operand.{Operand}
@@ -124,10 +124,16 @@ content_held : (files : Files) (name : List ℕ) (head : Head) (planned : bindin
 content_held files name head (bound_cipher content) is = is
 content_held files name head (bound_values values) is = absurd is
 
-values_held : (files : Files) (name : List ℕ) (listed : Vec ℕ Global) (planned : bindings.Operand) → IsOperandAt files name (Values listed) planned
-    → values_in planned ≡ listed.items
-values_held files name listed (bound_cipher content) is = absurd is
-values_held files name listed (bound_values values) is = sym is
+values_seen : (listed : Vec ℕ Global) (planned : bindings.Operand) → IsSeen (Values listed) planned → values_in planned ≡ listed.items
+values_seen listed (bound_cipher content) is = absurd is
+values_seen listed (bound_values values) is = sym is
+
+content_stated : (planned : List bindings.Operand) (place : ℕ) (head : Head) (one : bindings.Operand) → slice_index_or planned place (bound_values []) ≡ one → IsSeen (Cipher head) one
+    → IsStatedBy planned (record { word = 3 + place; head = head }) (content_of one)
+content_stated planned place head (bound_cipher content) is seen =
+    let same : 3 + place - 3 ≡ place = omega arith in
+    record { named = ap (λ (p : ℕ). slice_index_or planned p (bound_values [])) same ∙ is; states = seen }
+content_stated planned place head (bound_values values) is seen = absurd seen
 
 -- a cipher at the place of a cipher input's binding
 pub cipher_is : (script : Script) (words : List (List ℕ)) (operands : List Operand) (one : Input) (place : ℕ) (head : Head) → CanRunOn script words operands
@@ -145,6 +151,9 @@ cipher_is script words operands one place head can is kind at =
         behind = omega arith;
         within = omega (arith, is.within, can.count);
       };
+      stated = λ planned seen.
+          content_stated planned place head (operand_of (bound_names words) planned one) (operand_at words planned one place is.placed)
+          (subst (IsSeen (Cipher head)) (operand_at words planned one place is.placed) (seen.each place (Cipher head) at));
       held = λ files planned are.
           content_held files (binding_file (word_at words (3 + place))) head (operand_of (bound_names words) planned one)
           (subst (IsOperandAt files (binding_file (word_at words (3 + place))) (Cipher head)) (operand_at words planned one place is.placed) (are.each place (Cipher head) at));
@@ -168,9 +177,9 @@ values_are script words operands one place is kind =
       listed = listed;
       there = at;
       values = subst (λ k. FitsKind script.set k (Values listed)) kind (is.fits (Values listed) at);
-      is = λ files planned are.
-          values_held files (binding_file (word_at words (3 + place))) listed (operand_of (bound_names words) planned one)
-          (subst (IsOperandAt files (binding_file (word_at words (3 + place))) (Values listed)) (operand_at words planned one place is.placed) (are.each place (Values listed) at));
+      is = λ planned seen.
+          values_seen listed (operand_of (bound_names words) planned one)
+          (subst (IsSeen (Values listed)) (operand_at words planned one place is.placed) (seen.each place (Values listed) at));
     }
 
 -- ---- lists in order of declaration
@@ -262,6 +271,18 @@ ciphers_held script words operands ciphers all files planned are =
           (one.1.1.held files planned are);
     }
 
+pub ciphers_stated : (script : Script) (words : List (List ℕ)) (operands : List Operand) (ciphers : List BoundCipher)
+    → AllZip (IsCipherOf script words operands) (cipher_inputs script.inputs) ciphers → (planned : List bindings.Operand)
+    → AreSeen operands planned → AreStated planned ciphers (ciphers_of script (bound_names words) planned)
+ciphers_stated script words operands ciphers all planned seen =
+    let content = λ (one : Input). content_of (operand_of (bound_names words) planned one) in
+    record {
+      count = AllZip-long (IsCipherOf script words operands) (cipher_inputs script.inputs) ciphers all ∙ sym (length-map (cipher_inputs script.inputs) content);
+      each = λ r cipher at.
+          let one = zip_left (IsCipherOf script words operands) (cipher_inputs script.inputs) ciphers r cipher all at in
+          subst (IsStatedBy planned cipher) (sym (made_at content (cipher_inputs script.inputs) r one.0 no_content one.1.0)) (one.1.1.stated planned seen);
+    }
+
 pub plains_bound : (script : Script) (words : List (List ℕ)) (operands : List Operand) (places : List ℕ)
     → AllZip (AreValuesOf script words operands) (plain_inputs script.inputs) places → (p place : ℕ) → slice_get places p ≡ Some place
     → ArePlainValues script words operands p place
@@ -271,6 +292,6 @@ plains_bound script words operands places all p place at =
       listed = one.1.1.listed;
       there = one.1.1.there;
       values = one.1.1.values;
-      is = λ files planned are.
-          made_at (λ (x : Input). values_in (operand_of (bound_names words) planned x)) (plain_inputs script.inputs) p one.0 [] one.1.0 ∙ one.1.1.is files planned are;
+      is = λ planned seen.
+          made_at (λ (x : Input). values_in (operand_of (bound_names words) planned x)) (plain_inputs script.inputs) p one.0 [] one.1.0 ∙ one.1.1.is planned seen;
     }

@@ -1,36 +1,40 @@
 -- What the reading of files that are bound to inputs gives.
-use Rattle.std.specs.Prelude.{◌≡◌, ◌⊎◌, ℕ, ◌+◌, ◌-◌, ◌≤◌, List, take, slice_get, Some, Result, Ok, Err, IfOk, IfErr, IsOk}
-use Rattle.outer_io.specs.Store.{Files}
+use Rattle.std.specs.Prelude.{◌≡◌, ℕ, ◌+◌, ◌<◌, List, [], length, slice_get, slice_index_or, Some, Result, IfOk, IfErr}
+use Rattle.std.specs.Option.{ForSome}
+use Rattle.outer_io.specs.Store.{StoreState}
+use Rattle.set_table.specs.declared.SetName.{SetName}
+use Rattle.script_text.specs.declared.script.InputKind.{InputKind}
 use Rattle.script_text.specs.Scripts.{Script}
 use Rattle.command_words.specs.Form.{binding_name}
 use Rattle.command_words.specs.Line.{word_at}
 use Rattle.command_words.specs.declared.status.Status.{Status}
-use Rattle.command_words.specs.declared.status.Status.TheVariants.{ReadFault}
 use Rattle.command_model.specs.Bindings as bindings
-use Rattle.command_model.specs.Bindings.{bindings_of, input_named, kind_at}
-use Rattle.command_model.specs.Plan.{operands_from}
-use Rattle.command_model.specs.Answers.{IsFault}
-use Rattle.run_operands.specs.BoundFiles.{FitsKind, IsOperandAt, AreOperands}
+use Rattle.command_model.specs.Bindings.{bound_cipher, bound_values, input_named, kind_at}
+use Rattle.command_model.specs.Reading.{Reading}
+use Rattle.command_model.specs.Commanded.{Stopped}
+use Rattle.command_stages.specs.Stages.{Way, MayReread}
+use Rattle.run_operands.specs.BoundFiles.{FitsKind, IsSeen, AreSeen, IsBoundAt, AreBound}
 use Rattle.run_operands.specs.declared.bound_files.Operand.{Operand}
 
--- what was read of the file of this name is the planned operand, or the file is refused as planned, or the answer is one that no word
--- and no file brings about
-pub record OperandRead (planned : Result bindings.Operand Status) (files : Files) (name : List ℕ) (result : Result Operand Status) : Type 0 where
-  pub ok : IfOk result (λ operand. (one : bindings.Operand) × ((planned ≡ Ok one) × IsOperandAt files name operand one))
-  pub err : IfErr result (λ status. IsFault status ⊎ (planned ≡ Err status))
+-- the file of a cipher that a word binds may be read again
+abbrev pub MayBeReread : List (List ℕ) → StoreState → ℕ → bindings.Operand → Type 0
+MayBeReread words begun word (bound_cipher content) = MayReread words begun word
+MayBeReread words begun word (bound_values values) = Unit {0}
 
--- what was read of the files of the bindings before a word is the planned operands
-abbrev pub AreReadBefore : Script → List (List ℕ) → Files → ℕ → List Operand → Type 0
-AreReadBefore script words files word operands =
-    (planned : List bindings.Operand) × ((operands_from script files 3 (take (word - 3) (bindings_of words)) ≡ Ok planned) × AreOperands words files operands planned)
+-- the file of a name, which a word gives, was read for an input of a kind, on the way to the rest
+pub record OperandCame (words : List (List ℕ)) (set : SetName) (kind : InputKind) (name : List ℕ) (word : ℕ) (rest : bindings.Operand → Reading) (begun now : StoreState)
+    (result : Result Operand Status) : Type 0 where
+  pub ok : IfOk result (λ operand. (one : bindings.Operand)
+      × (IsSeen operand one × (ForSome begun.files (λ files. IsBoundAt files set kind name word one) × (MayBeReread words begun word one × Way words (rest one) begun now))))
+  pub err : IfErr result (Stopped words begun now)
 
--- What was read of the files of all bindings is the planned operands, or one is refused as planned, or the answer is one that no word
--- and no file brings about. No file is read behind one that is refused.
-pub record OperandsRead {V : Type 0} (script : Script) (words : List (List ℕ)) (files : Files) (items : V → List Operand) (result : Result V Status) : Type 0 where
-  pub ok : IfOk result (λ v. (planned : List bindings.Operand) × ((operands_from script files 3 (bindings_of words) ≡ Ok planned) × AreOperands words files (items v) planned))
-  pub err : IfErr result (λ status. IsFault status ⊎ (operands_from script files 3 (bindings_of words) ≡ Err status))
-  pub reached : IfErr result (λ status. (word : ℕ) → status ≡ ReadFault word → 3 ≤ word
-      → IsOk (operands_from script files 3 (take (word - 3) (bindings_of words))))
+-- the files of all bindings were read, on the way to the rest
+pub record OperandsCame {V : Type 0} (script : Script) (words : List (List ℕ)) (rest : List bindings.Operand → Reading) (begun now : StoreState) (items : V → List Operand)
+    (result : Result V Status) : Type 0 where
+  pub ok : IfOk result (λ v. (planned : List bindings.Operand)
+      × (AreSeen (items v) planned × (ForSome begun.files (λ files. AreBound script words files planned)
+      × (((p : ℕ) → p < length planned → MayBeReread words begun (3 + p) (slice_index_or planned p (bound_values []))) × Way words (rest planned) begun now))))
+  pub err : IfErr result (Stopped words begun now)
 
 -- what was read of the file of each binding fits the input that it is bound to
 abbrev pub FitInputs : Script → List (List ℕ) → List Operand → Type 0

@@ -1,12 +1,13 @@
 -- What is demanded of the ciphers that are bound to the inputs of a script.
 use Rattle.std.specs.Prelude.{◌≡◌, ℕ, List, [], slice_get, Option, Some}
 use Rattle.set_table.specs.declared.SetName.{SetName}
+use Rattle.file_model.specs.FileText.{FileContent}
 use Rattle.file_model.specs.Heads.{content_with}
 use Rattle.file_model.specs.declared.head.Head.{Head}
 use Rattle.command_words.specs.declared.status.Status.{Status}
 use Rattle.command_model.specs.Bindings as bindings
 use Rattle.command_model.specs.Bindings.{bound_cipher, bound_values}
-use Rattle.command_model.specs.Plan.{set_refusal, parts_refusal, key_refusal}
+use Rattle.command_model.specs.Plan.{other_set, other_parts, other_key}
 use Rattle.run_operands.specs.declared.bound_files.Operand.{Operand}
 use Rattle.run_operands.specs.declared.bound_files.Operand.TheVariants.{Cipher, Values}
 use Rattle.run_operands.specs.declared.matching.Demand.{Demand}
@@ -17,11 +18,11 @@ abbrev pub operand_seen : Operand → bindings.Operand
 operand_seen (Cipher head) = bound_cipher (content_with head [])
 operand_seen (Values listed) = bound_values listed.items
 
--- what is said of an operand that doesn't meet a demand, its file being named by a word
-abbrev pub refusal_of : Demand → ℕ → bindings.Operand → Option Status
-refusal_of (demand.Set set) = set_refusal set
-refusal_of demand.Parts = parts_refusal
-refusal_of (demand.Key id) = key_refusal id
+-- what is said of a cipher that doesn't meet a demand, its file being named by a word
+abbrev pub refusal_of : Demand → ℕ → FileContent → Option Status
+refusal_of (demand.Set set) = other_set set
+refusal_of demand.Parts = other_parts
+refusal_of (demand.Key id) = other_key id
 
 -- all ciphers among operands are of this set and have two parts
 abbrev pub CiphersFit : SetName → List Operand → Type 0

@@ -10,7 +10,7 @@ use Rattle.command_model.specs.Bindings as bindings
 use Rattle.command_model.specs.Bindings.{bound_names, place_bound, content_of, values_in, operand_of, plains_of}
 use Rattle.command_model.specs.Plan.{badly_bound}
 use Rattle.command_stages.specs.Operands.{AreValues, HasContentAt}
-use Rattle.run_operands.specs.BoundFiles.{FitsKind, AreOperands, MayBeBound}
+use Rattle.run_operands.specs.BoundFiles.{FitsKind, AreSeen, AreOperands, IsStatedBy, MayBeBound}
 use Rattle.run_operands.specs.BoundReads.{FitInputs}
 use Rattle.run_operands.specs.Demands.{CiphersFit}
 use Rattle.run_operands.specs.declared.bound_files.Operand.{Operand}
@@ -34,6 +34,7 @@ pub record IsPlaceOf (script : Script) (words : List (List ℕ)) (operands : Lis
 -- the cipher is the one that is bound to an input
 pub record IsCipherOf (script : Script) (words : List (List ℕ)) (operands : List Operand) (input : Input) (cipher : BoundCipher) : Type 0 where
   pub bound : MayBeBound script.set (length words) cipher
+  pub stated : (planned : List bindings.Operand) → AreSeen operands planned → IsStatedBy planned cipher (content_of (operand_of (bound_names words) planned input))
   pub held : (files : Files) (planned : List bindings.Operand) → AreOperands words files operands planned
       → HasContentAt files (binding_file (word_at words cipher.word)) cipher.head (content_of (operand_of (bound_names words) planned input))
 
@@ -42,13 +43,11 @@ pub record AreValuesOf (script : Script) (words : List (List ℕ)) (operands : L
   pub listed : Vec ℕ Global
   pub there : slice_get operands place ≡ Some (Values listed)
   pub values : AreValues script.set listed.items
-  pub is : (files : Files) (planned : List bindings.Operand) → AreOperands words files operands planned
-      → values_in (operand_of (bound_names words) planned input) ≡ listed.items
+  pub is : (planned : List bindings.Operand) → AreSeen operands planned → values_in (operand_of (bound_names words) planned input) ≡ listed.items
 
 -- at this place among the operands are the values that are bound to the plain input of a number
 pub record ArePlainValues (script : Script) (words : List (List ℕ)) (operands : List Operand) (number place : ℕ) : Type 0 where
   pub listed : Vec ℕ Global
   pub there : slice_get operands place ≡ Some (Values listed)
   pub values : AreValues script.set listed.items
-  pub is : (files : Files) (planned : List bindings.Operand) → AreOperands words files operands planned
-      → slice_index_or (plains_of script (bound_names words) planned) number [] ≡ listed.items
+  pub is : (planned : List bindings.Operand) → AreSeen operands planned → slice_index_or (plains_of script (bound_names words) planned) number [] ≡ listed.items

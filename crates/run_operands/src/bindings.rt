@@ -1,12 +1,13 @@
 // How the words of `run` bind the inputs of a script to files.
-ghost use Rattle.std.specs.Prelude.{◌≡◌, ◌≢◌, ◌<◌, ◌≤◌, ◌-◌, ℕ, [], length, map, take, None, Some, OnOk, IfErr};
+ghost use Rattle.std.specs.Prelude.{◌≡◌, ◌<◌, ◌≤◌, ◌-◌, ℕ, [], length, map, take, None, Some, OnOk, IfErr};
 ghost use Rattle.std.specs.String.{string_bytes};
 ghost use Rattle.outer_io.specs.Store.{StoreState};
 ghost use Rattle.command_words.specs.Form as form;
 ghost use Rattle.command_words.specs.Line.{word_at};
 ghost use Rattle.command_model.specs.Bindings as bindings;
 ghost use Rattle.command_model.specs.Plan as plan;
-ghost use Rattle.command_stages.specs.Stages.{Caused};
+ghost use Rattle.command_model.specs.Commanded.{Caused};
+ghost use Rattle.command_stages.specs.Causes.{OwesNoCall};
 
 use command_stages::name_of;
 use command_words::{BindingFault, Status, binding_file, binding_name};
@@ -59,8 +60,7 @@ pub fn match_bindings(script: &Script, words: &[String]) -> Result<(), Status>
     ensures ok { OnOk result (plan.badly_bound script.now (map string_bytes words.now) ≡ None) }
     ensures err { IfErr result (λ s. plan.badly_bound script.now (map string_bytes words.now) ≡ Some s) }
     ensures cause { IfErr result (λ s. (old : StoreState) (new : StoreState) → Caused (λ w. (3 ≤ w) × (w < length words.now)) old new s) }
-    ensures reads { IfErr result (λ s. s ≢ Status.WriteFault) }
-    ensures read { IfErr result (λ s. (w : ℕ) → s ≢ Status.ReadFault w) }
+    ensures none { IfErr result OwesNoCall }
 {
     match fault_of_bindings(script, words) {
         Some(fault) => Err(Status::Binding { fault }),

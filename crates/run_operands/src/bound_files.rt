@@ -1,15 +1,17 @@
 // The files that are bound to the inputs of a script.
-ghost use Rattle.std.specs.Prelude.{◌≡◌, ◌≢◌, ◌+◌, ◌<◌, ◌≤◌, length, map, IfOk, IfErr};
-ghost use Rattle.std.specs.Option.{ForSome};
+ghost use Rattle.std.specs.Prelude.{◌≡◌, ◌+◌, ◌<◌, ◌≤◌, ℕ, List, Some, length, map, IfOk};
 ghost use Rattle.std.specs.String.{string_bytes};
-ghost use Rattle.outer_io.specs.Store.{OnlyReads, file};
+ghost use Rattle.outer_io.specs.Store.{StoreState, OnlyReads};
 ghost use Rattle.command_words.specs.Form as form;
 ghost use Rattle.command_words.specs.Line.{word_at};
+ghost use Rattle.command_words.specs.declared.form.Form.TheVariants as forms;
 ghost use Rattle.command_model.specs.Bindings as bindings;
+ghost use Rattle.command_model.specs.Reading.{Reading};
 ghost use Rattle.command_model.specs.Plan as plan;
+ghost use Rattle.command_model.specs.Answers.{IsOperandOf};
+ghost use Rattle.command_stages.specs.Stages.{Way};
 ghost use Rattle.run_operands.specs.BoundFiles.{FitsKind};
-ghost use Rattle.run_operands.specs.BoundReads.{OperandRead, OperandsRead, FitInputs};
-ghost use Rattle.command_stages.specs.Stages.{Caused};
+ghost use Rattle.run_operands.specs.BoundReads.{OperandCame, OperandsCame, FitInputs};
 
 use crate::bindings::{file_bound, input_named, name_bound};
 use command_stages::{read_values_named, scan_named};
@@ -48,19 +50,15 @@ pub fn read_operands<S: Store>(
     requires count { 3 ≤ length words.now }
     requires few { length words.now ≤ 1000 }
     ensures keeps { OnlyReads (S.state store.old) (S.state store.new) }
-    ensures told { ForSome (S.state store.old).files (λ files.
-        OperandsRead script.now (map string_bytes words.now) files (λ v. v.items) result) }
-    ensures cause { IfErr result (λ s. Caused (λ w. (3 ≤ w) × (w < length words.now)) (S.state store.old) (S.state store.new) s) }
-    ensures reads { IfErr result (λ s. s ≢ Status.WriteFault) }
+    ensures came { (rest : List bindings.Operand → Reading) (begun : StoreState) → form.form_of (map string_bytes words.now) ≡ Some forms.Run
+        → Way (map string_bytes words.now) (plan.reading_of_bindings script.now 3 (bindings.bindings_of (map string_bytes words.now)) rest) begun (S.state store.old)
+        → OperandsCame script.now (map string_bytes words.now) rest begun (S.state store.new) (λ v. v.items) result }
     ensures count { IfOk result (λ v. length v.items + 3 ≡ length words.now) }
     ensures fits { IfOk result (λ v. FitInputs script.now (map string_bytes words.now) v.items) }
 {
     let mut operands = Vec::new(alloc);
     for word in 3..words.len() as u32 {
-        let operand = match read_operand(alloc, store, words, script, word) {
-            Ok(operand) => operand,
-            Err(status) => return Err(status),
-        };
+        let operand = read_operand(alloc, store, words, script, word)?;
         let Ok(()) = operands.push(operand) else {
             return Err(Status::Memory);
         };
@@ -78,11 +76,10 @@ fn read_operand<S: Store>(
 ) -> Result<Operand, Status>
     requires { word < length words.now }
     ensures keeps { OnlyReads (S.state store.old) (S.state store.new) }
-    ensures told { ForSome (S.state store.old).files (λ files.
-        OperandRead (plan.operand_bound script.now files word (word_at (map string_bytes words.now) word)) files
-        (form.binding_file (word_at (map string_bytes words.now) word)) result) }
-    ensures cause { IfErr result (λ s. Caused (λ w. w ≡ word) (S.state store.old) (S.state store.new) s) }
-    ensures reads { IfErr result (λ s. s ≢ Status.WriteFault) }
+    ensures came { (rest : bindings.Operand → Reading) (begun : StoreState) → IsOperandOf (form.form_of (map string_bytes words.now)) (length (map string_bytes words.now)) word
+        → Way (map string_bytes words.now) (plan.reading_of_binding script.now word (word_at (map string_bytes words.now) word) rest) begun (S.state store.old)
+        → OperandCame (map string_bytes words.now) script.now.set (bindings.kind_at script.now (bindings.input_named script.now
+        (form.binding_name (word_at (map string_bytes words.now) word)))) (form.binding_file (word_at (map string_bytes words.now) word)) word rest begun (S.state store.new) result }
     ensures fits { IfOk result (λ operand. FitsKind script.now.set (bindings.kind_at script.now (bindings.input_named script.now
         (form.binding_name (word_at (map string_bytes words.now) word)))) operand) }
 {
@@ -118,20 +115,19 @@ fn read_of_kind<S: Store>(
     word: u32,
 ) -> Result<Operand, Status>
     ensures keeps { OnlyReads (S.state store.old) (S.state store.new) }
-    ensures told { ForSome (S.state store.old).files (λ files.
-        OperandRead (plan.taken_operand set kind word (file files name.now)) files name.now result) }
-    ensures cause { IfErr result (λ s. Caused (λ w. w ≡ word) (S.state store.old) (S.state store.new) s) }
-    ensures reads { IfErr result (λ s. s ≢ Status.WriteFault) }
+    ensures came { (words : List (List ℕ)) (rest : bindings.Operand → Reading) (begun : StoreState) → IsOperandOf (form.form_of words) (length words) word
+        → Way words (plan.reading_of_kind set kind name.now word rest) begun (S.state store.old)
+        → OperandCame words set kind name.now word rest begun (S.state store.new) result }
     ensures fits { IfOk result (λ operand. FitsKind set kind operand) }
 {
     match kind {
-        InputKind::Cipher => match scan_named(store, name, Wanted::Cipher, word) {
-            Ok(head) => Ok(Operand::Cipher(head)),
-            Err(status) => Err(status),
-        },
-        InputKind::Plain => match read_values_named(alloc, store, name, set, word) {
-            Ok(values) => Ok(Operand::Values(values)),
-            Err(status) => Err(status),
-        },
+        InputKind::Cipher => {
+            let head = scan_named(store, name, Wanted::Cipher, word)?;
+            Ok(Operand::Cipher(head))
+        }
+        InputKind::Plain => {
+            let values = read_values_named(alloc, store, name, set, word)?;
+            Ok(Operand::Values(values))
+        }
     }
 }

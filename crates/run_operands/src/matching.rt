@@ -1,12 +1,14 @@
 // Whether the ciphers that are bound to the inputs of a script belong to its set and to one secret.
-ghost use Rattle.std.specs.Prelude.{◌≡◌, ◌≢◌, ◌<◌, ◌≤◌, ◌+◌, ℕ, List, length, map, slice_get, None, Some, IsSome, IfSome, OnOk, IfErr};
-ghost use Rattle.outer_io.specs.Store.{Files, StoreState};
+ghost use Rattle.std.specs.Prelude.{◌≡◌, ◌<◌, ◌≤◌, ◌+◌, ℕ, List, [], length, map, slice_get, None, Some, IsSome, IfSome, OnOk, IfErr};
+ghost use Rattle.outer_io.specs.Store.{StoreState};
+ghost use Rattle.file_model.specs.Heads.{content_with};
 ghost use Rattle.file_model.specs.declared.head.Head.{Head};
 ghost use Rattle.command_model.specs.Bindings as bindings;
 ghost use Rattle.command_model.specs.Plan as plan;
-ghost use Rattle.run_operands.specs.BoundFiles.{AreOperands};
+ghost use Rattle.run_operands.specs.BoundFiles.{AreSeen};
 ghost use Rattle.run_operands.specs.Demands.{operand_seen, refusal_of, CiphersFit};
-ghost use Rattle.command_stages.specs.Stages.{Caused};
+ghost use Rattle.command_model.specs.Commanded.{Caused};
+ghost use Rattle.command_stages.specs.Causes.{OwesNoCall};
 
 use crate::bound_files::Operand;
 use command_words::Status;
@@ -29,14 +31,11 @@ enum Demand {
 /// first, and then the parts and the key ids, each in the order of the words.
 pub fn match_operands(script: &Script, operands: &[Operand]) -> Result<(), Status>
     requires few { length operands.now ≤ 997 }
-    ensures ok { (words : List (List ℕ)) (files : Files) (planned : List bindings.Operand) → AreOperands words files operands.now planned
-        → OnOk result (plan.mismatch script.now planned ≡ None) }
-    ensures err { (words : List (List ℕ)) (files : Files) (planned : List bindings.Operand) → AreOperands words files operands.now planned
-        → IfErr result (λ s. plan.mismatch script.now planned ≡ Some s) }
+    ensures ok { (planned : List bindings.Operand) → AreSeen operands.now planned → OnOk result (plan.mismatch script.now planned ≡ None) }
+    ensures err { (planned : List bindings.Operand) → AreSeen operands.now planned → IfErr result (λ s. plan.mismatch script.now planned ≡ Some s) }
     ensures fit { OnOk result (CiphersFit script.now.set operands.now) }
     ensures cause { IfErr result (λ s. (old : StoreState) (new : StoreState) → Caused (λ w. (3 ≤ w) × (w < 3 + length operands.now)) old new s) }
-    ensures reads { IfErr result (λ s. s ≢ Status.WriteFault) }
-    ensures read { IfErr result (λ s. (w : ℕ) → s ≢ Status.ReadFault w) }
+    ensures none { IfErr result OwesNoCall }
 {
     match mismatch(script, operands) {
         Some(status) => Err(status),
@@ -60,7 +59,7 @@ fn mismatch(script: &Script, operands: &[Operand]) -> Option<Status>
 /// The first cipher of another key id than the first one.
 fn key_mismatch(operands: &[Operand]) -> Option<Status>
     requires few { length operands.now ≤ 997 }
-    ensures { result ≡ plan.first_refusal (plan.key_refusal (bindings.first_key_id (map operand_seen operands.now))) 3 (map operand_seen operands.now) }
+    ensures { result ≡ plan.first_refusal (plan.of_cipher (plan.other_key (bindings.first_key_id (map operand_seen operands.now)))) 3 (map operand_seen operands.now) }
 {
     match first_key_id(operands) {
         Some(id) => first_refusal(operands, Demand::Key(id)),
@@ -70,8 +69,7 @@ fn key_mismatch(operands: &[Operand]) -> Option<Status>
 
 /// The key id of the first cipher, if there is one.
 pub fn first_key_id(operands: &[Operand]) -> Option<[u8; 16]>
-    ensures told { (words : List (List ℕ)) (files : Files) (planned : List bindings.Operand) → AreOperands words files operands.now planned
-        → IfSome result (λ id. id ≡ bindings.first_key_id planned) }
+    ensures told { (planned : List bindings.Operand) → AreSeen operands.now planned → IfSome result (λ id. id ≡ bindings.first_key_id planned) }
     ensures seen { IfSome result (λ id. id ≡ bindings.first_key_id (map operand_seen operands.now)) }
     ensures some { (p : ℕ) (head : Head) → slice_get operands.now p ≡ Some (Operand.Cipher head) → IsSome result }
 {
@@ -86,7 +84,7 @@ pub fn first_key_id(operands: &[Operand]) -> Option<[u8; 16]>
 /// What is said of the first cipher that doesn't meet a demand.
 fn first_refusal(operands: &[Operand], demand: Demand) -> Option<Status>
     requires few { length operands.now ≤ 997 }
-    ensures { result ≡ plan.first_refusal (refusal_of demand) 3 (map operand_seen operands.now) }
+    ensures { result ≡ plan.first_refusal (plan.of_cipher (refusal_of demand)) 3 (map operand_seen operands.now) }
 {
     for (place, operand) in operands.iter().enumerate() {
         let refused = refusal(operand, demand, 3 + place as u32);
@@ -99,7 +97,7 @@ fn first_refusal(operands: &[Operand], demand: Demand) -> Option<Status>
 
 /// What is said of an operand that doesn't meet a demand, its file being named by a word.
 fn refusal(operand: &Operand, demand: Demand, word: u32) -> Option<Status>
-    ensures { result ≡ refusal_of demand word (operand_seen operand.now) }
+    ensures { result ≡ plan.of_cipher (refusal_of demand) word (operand_seen operand.now) }
 {
     match operand {
         Operand::Cipher(head) => head_refusal(head, demand, word),
@@ -108,7 +106,7 @@ fn refusal(operand: &Operand, demand: Demand, word: u32) -> Option<Status>
 }
 
 fn head_refusal(head: &Head, demand: Demand, word: u32) -> Option<Status>
-    ensures { result ≡ refusal_of demand word (operand_seen (Operand.Cipher head.now)) }
+    ensures { result ≡ refusal_of demand word (content_with head.now []) }
 {
     match demand {
         Demand::Set(set) => set_refusal(head, set, word),
@@ -118,7 +116,7 @@ fn head_refusal(head: &Head, demand: Demand, word: u32) -> Option<Status>
 }
 
 fn set_refusal(head: &Head, set: SetName, word: u32) -> Option<Status>
-    ensures { result ≡ plan.set_refusal set word (operand_seen (Operand.Cipher head.now)) }
+    ensures { result ≡ plan.other_set set word (content_with head.now []) }
 {
     if head.set == set {
         return None;
@@ -131,7 +129,7 @@ fn set_refusal(head: &Head, set: SetName, word: u32) -> Option<Status>
 }
 
 fn parts_refusal(head: &Head, word: u32) -> Option<Status>
-    ensures { result ≡ plan.parts_refusal word (operand_seen (Operand.Cipher head.now)) }
+    ensures { result ≡ plan.other_parts word (content_with head.now []) }
 {
     if head.parts == 2 {
         return None;
@@ -144,7 +142,7 @@ fn parts_refusal(head: &Head, word: u32) -> Option<Status>
 }
 
 fn key_refusal(head: &Head, id: [u8; 16], word: u32) -> Option<Status>
-    ensures { result ≡ plan.key_refusal id word (operand_seen (Operand.Cipher head.now)) }
+    ensures { result ≡ plan.other_key id word (content_with head.now []) }
 {
     if head.id == id {
         return None;

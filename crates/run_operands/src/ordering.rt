@@ -6,7 +6,7 @@ ghost use Rattle.script_text.specs.Scripts.{IsSound, cipher_inputs, plain_inputs
 ghost use Rattle.command_words.specs.Form as form;
 ghost use Rattle.command_words.specs.Line.{word_at};
 ghost use Rattle.command_model.specs.Bindings as bindings;
-ghost use Rattle.run_operands.specs.BoundFiles.{AreOperands, AreHeld, MayBeBound};
+ghost use Rattle.run_operands.specs.BoundFiles.{AreSeen, AreOperands, AreHeld, AreStated, MayBeBound};
 ghost use Rattle.run_operands.specs.Ordered.{CanRunOn, IsPlaceOf, IsCipherOf, AreValuesOf, ArePlainValues};
 
 use crate::bindings::place_bound;
@@ -25,6 +25,8 @@ pub fn ciphers_in_order(
     requires matched { CanRunOn script.now (map string_bytes words.now) operands.now }
     ensures count { IfOk result (λ v. length v.items ≡ length (cipher_inputs script.now.inputs)) }
     ensures bound { IfOk result (λ v. (r : ℕ) (cipher : BoundCipher) → slice_get v.items r ≡ Some cipher → MayBeBound script.now.set (length words.now) cipher) }
+    ensures stated { IfOk result (λ v. (planned : List bindings.Operand) → AreSeen operands.now planned
+        → AreStated planned v.items (bindings.ciphers_of script.now (bindings.bound_names (map string_bytes words.now)) planned)) }
     ensures held { IfOk result (λ v. (files : Files) (planned : List bindings.Operand) → AreOperands (map string_bytes words.now) files operands.now planned
         → AreHeld (map string_bytes words.now) files v.items (bindings.ciphers_of script.now (bindings.bound_names (map string_bytes words.now)) planned)) }
 {

@@ -1,5 +1,5 @@
--- What the results of linear operations carry.
-use Rattle.std.proofs.Common.{◌≡◌, ℕ, ◌*◌, ◌+◌, ◌/◌, ◌%◌, ℤ, pos, neg_ℤ, ◌-ℤ◌, ap, ap₂, ◌∙◌, subst, List, slice_index}
+-- What the results of operations carry.
+use Rattle.std.proofs.Common.{◌≡◌, ℕ, ◌*◌, ◌+◌, ◌%◌, ℤ, pos, neg_ℤ, ◌-ℤ◌, ap, ap₂, ◌∙◌, List, slice_index}
 use Rattle.set_table.specs.Sets.{degree_of, plain_of}
 use Rattle.ring_law.specs.Sums.{values_below}
 use Rattle.ring_law.specs.Residues.{residue}
@@ -45,10 +45,10 @@ module _ (n : ℕ) (ctx : ContextValue) (out : CipherValue) (s : ℕ → ℤ) (b
     holds = holds;
   }
 
-  pub product_carries : (other : ℕ → ℕ) (w : List ℕ) → slots_of ctx.set (natural_polynomial other) ≡ w → n ≡ degree_of ctx.set → HoldsIn n ctx out s (plain_product n (plain_of ctx.set) m other) (n * (plain_of ctx.set / 2) * bound)
-      → Carries n ctx s out (values_below (degree_of ctx.set) (λ i. slice_index v i * slice_index w i % plain_of ctx.set)) (degree_of ctx.set * (plain_of ctx.set / 2) * bound)
-  product_carries other w two degree holds = record {
+  pub product_carries : (other : ℕ → ℕ) (w : List ℕ) → slots_of ctx.set (natural_polynomial other) ≡ w → HoldsIn n ctx out s (plain_product (degree_of ctx.set) (plain_of ctx.set) m other) bound
+      → Carries n ctx s out (values_below (degree_of ctx.set) (λ i. slice_index v i * slice_index w i % plain_of ctx.set)) bound
+  product_carries other w two holds = record {
     plaintext = plain_product (degree_of ctx.set) (plain_of ctx.set) m other;
     slots = slots-plain_product ctx.set m other ∙ ap₂ (λ (x y : List ℕ). values_below (degree_of ctx.set) (λ i. slice_index x i * slice_index y i % plain_of ctx.set)) one two;
-    holds = subst (λ (d : ℕ). HoldsIn n ctx out s (plain_product d (plain_of ctx.set) m other) (d * (plain_of ctx.set / 2) * bound)) degree holds;
+    holds = holds;
   }

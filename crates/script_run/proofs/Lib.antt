@@ -3,6 +3,7 @@ pub mod Carrying
 pub mod Results
 pub mod SplitPlaces
 pub mod Registers
+pub mod KeyNeeds
 pub mod Premises
 pub mod Live
 pub mod LiveTests

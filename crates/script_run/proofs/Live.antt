@@ -1,15 +1,11 @@
 -- Live registers, and what a step reads.
-use Rattle.std.proofs.Common.{arith, ◌≡◌, ◌≢◌, ◌⊎◌, ℕ, zero, suc, ◌+◌, ◌<◌, ◌≤◌, Bool, true, false, not, cond, nat_lt, position, None, refl, sym, ap, subst, ◌∙◌, ⊎_elim, inl, inr, List, [], ◌∷◌, length, slice_index, get_or, Some, All}
+use Rattle.std.proofs.Common.{arith, ◌≡◌, ◌≢◌, ◌⊎◌, ℕ, zero, suc, ◌+◌, ◌<◌, ◌≤◌, None, refl, subst, ◌∙◌, ⊎_elim, inl, inr, List, [], ◌∷◌, length, slice_index, Some}
 use Rattle.std.specs.Prelude.{Contains, IfSome, Option, slice_get}
 use Rattle.std.specs.List.{AllByRecursion}
-use Rattle.std.proofs.lemmas.Bool.{cases_lt, lt-ltb, le-ltb}
-use Rattle.std.proofs.lemmas.List.{get_or_default}
-use Rattle.std.proofs.lemmas.List.Sums.{position_or_len_is}
-use Rattle.std.proofs.lemmas.Option.{get_or_from_slice_get}
+use Rattle.std.proofs.lemmas.Bool.{cases_lt}
 use Rattle.script_text.specs.declared.script.Op.{Op}
-use Rattle.script_text.specs.declared.script.Op.TheVariants.{Neg}
 use Rattle.script_text.specs.declared.script.Step.{Step}
-use Rattle.script_text.specs.Scripts.{Script, is_linear, operands_of, plain_operand_of}
+use Rattle.script_text.specs.Scripts.{Script, operands_of, plain_operand_of}
 use Rattle.script_text.specs.Evaluating.{IsWithin}
 use Rattle.script_run.specs.Registers.{IsPlan, Live, input_count}
 use Rattle.script_run.specs.Steps.{OnOperands, OnPlain}
@@ -19,7 +15,7 @@ all_of : {P : ℕ → Type 0} (xs : List ℕ) → ((x : ℕ) → Contains xs x �
 all_of [] each = tt
 all_of (x ∷ xs) each = (each x (0, omega arith, refl), all_of xs (λ y (i, below, is). each y (suc i, omega (arith, below), is)))
 
-one_of : (P : ℕ → Type 0) (xs : List ℕ) (x : ℕ) → AllByRecursion P xs → Contains xs x → P x
+pub one_of : (P : ℕ → Type 0) (xs : List ℕ) (x : ℕ) → AllByRecursion P xs → Contains xs x → P x
 one_of P [] x all (i, below, is) = absurd (omega (arith, below))
 one_of P (y ∷ xs) x all (zero, below, is) = subst P is all.0
 one_of P (y ∷ xs) x all (suc i, below, is) = one_of P xs x all.1 (i, omega (arith, below), is)
@@ -28,7 +24,7 @@ pub all_weaker : {P Q : ℕ → Type 0} (xs : List ℕ) → ((x : ℕ) → P x �
 all_weaker [] weaker all = tt
 all_weaker {P} {Q} (x ∷ xs) weaker all = (weaker x all.0, all_weaker {P = P} {Q = Q} xs weaker all.1)
 
-some_weaker : {P Q : ℕ → Type 0} (found : Option ℕ) → ((x : ℕ) → P x → Q x) → IfSome found P → IfSome found Q
+pub some_weaker : {P Q : ℕ → Type 0} (found : Option ℕ) → ((x : ℕ) → P x → Q x) → IfSome found P → IfSome found Q
 some_weaker None weaker some = tt
 some_weaker (Some x) weaker some = weaker x some
 
@@ -80,39 +76,8 @@ operands_there script plan count i op step t plains out planned below is same wi
     let size = planned.size in
     (planned.within r (omega arith), λ equal. planned.result i r below live (equal ∙ place)))
 
--- a linear script's operation is linear
-pub linear_at : (steps : List Step) (i : ℕ) (op : Op) (step : Step) → All (λ step. is_linear step.op ≡ true) steps → i < length steps → slice_get steps i ≡ Some step → op ≡ step.op → is_linear op ≡ true
-linear_at steps i op step all below is same = ap is_linear (same ∙ ap (λ (x : Step). x.op) (sym (get_or_from_slice_get steps i step step is))) ∙ all i step below
-
 -- the step at a place
 pub step_found : (steps : List Step) (i : ℕ) (op : Op) → i < length steps → IfSome (slice_get steps i) (λ step. op ≡ step.op) → (step : Step) × (slice_get steps i ≡ Some step) × (op ≡ step.op)
 step_found [] i op below is = absurd (omega arith)
 step_found (first ∷ steps) zero op below is = (first, refl, is)
 step_found (first ∷ steps) (suc i) op below is = step_found steps i op (omega arith) is
-
--- ---- the first step that isn't linear
-abbrev pub no_step : Step
-no_step = record { name = []; op = Neg 0; line = 0 }
-
--- a step that an accessor reads
-pub linear_read : (steps : List Step) (i : ℕ) (op : Op) (test : Bool) → i < length steps → IfSome (slice_get steps i) (λ step. op ≡ step.op) → test ≡ is_linear op → is_linear (get_or steps i no_step).op ≡ test
-linear_read steps i op test below is same =
-    let found = step_found steps i op below is in
-    ap (λ (step : Step). is_linear step.op) (get_or_from_slice_get steps i found.0 no_step found.1) ∙ ap is_linear (sym found.2) ∙ sym same
-
-pub first_is : (steps : List Step) (i : ℕ) → i < length steps → ((k : ℕ) → k < i → is_linear (get_or steps k no_step).op ≡ true) → is_linear (get_or steps i no_step).op ≡ false
-    → Some i ≡ position (λ step. not (is_linear step.op)) steps
-first_is steps i below before here =
-    subst (λ n. Some i ≡ cond (nat_lt n (length steps)) (Some n) None)
-    (sym (position_or_len_is (λ step. not (is_linear step.op)) steps i no_step (omega arith) (λ k lower. ap not (before k lower)) (λ _. ap not here)))
-    (ap (λ test. cond test (Some i) None) (sym (lt-ltb i (length steps) below)))
-
-pub none_is : (steps : List Step) → ((k : ℕ) → k < length steps → is_linear (get_or steps k no_step).op ≡ true) → None ≡ position (λ step. not (is_linear step.op)) steps
-none_is steps all =
-    subst (λ n. None ≡ cond (nat_lt n (length steps)) (Some n) None)
-    (sym (position_or_len_is (λ step. not (is_linear step.op)) steps (length steps) no_step (omega arith) (λ k below. ap not (all k below)) (λ below. absurd (omega arith))))
-    (ap (λ test. cond test (Some (length steps)) None) (sym (le-ltb (length steps) (length steps) (omega arith))))
-
--- of every step, whatever is read past the end
-pub all_linear : (steps : List Step) → ((k : ℕ) → k < length steps → is_linear (get_or steps k no_step).op ≡ true) → All (λ step. is_linear step.op ≡ true) steps
-all_linear steps all k d below = ap (λ (step : Step). is_linear step.op) (get_or_default steps k d no_step below) ∙ all k below

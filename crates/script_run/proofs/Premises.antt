@@ -1,10 +1,9 @@
 -- What is asked of a run gives what is asked of each of its steps.
-use Rattle.std.proofs.Common.{arith, ◌≡◌, ℕ, ℤ, suc, ◌+◌, ◌*◌, ◌-◌, ◌%◌, ◌^◌, ◌<◌, ◌≤◌, true, refl, sym, ap, subst, ◌∙◌, List, [], ◌∷◌, ◌++◌, length, take, get_or, slice_index, Some, All}
+use Rattle.std.proofs.Common.{arith, ◌≡◌, ℕ, ℤ, ◌+◌, ◌*◌, ◌-◌, ◌%◌, ◌^◌, ◌<◌, ◌≤◌, refl, ap, subst, ◌∙◌, List, [], ◌∷◌, length, take, get_or, slice_index, Some, All}
 use Rattle.std.specs.Prelude.{slice_get}
 use Rattle.std.specs.List.{flat_map}
-use Rattle.std.proofs.lemmas.List.Concat.{get_or-flat_map, flat_map-cons}
+use Rattle.std.proofs.lemmas.List.Concat.{get_or-flat_map}
 use Rattle.std.proofs.lemmas.List.Folds.{length-flat_map-take}
-use Rattle.std.proofs.lemmas.Option.{get_or_from_slice_get}
 use Rattle.set_table.specs.declared.SetName.{SetName}
 use Rattle.set_table.specs.declared.KeyKind.{KeyKind}
 use Rattle.set_table.specs.declared.KeyKind.TheVariants as kind
@@ -14,13 +13,14 @@ use Rattle.bfv_params.specs.Values.{ContextValue}
 use Rattle.script_text.specs.declared.script.Op.{Op}
 use Rattle.script_text.specs.declared.script.Op.TheVariants.{Add, Sub, Neg, AddPlain, SubPlain, MulPlain, MulConst, Mul, Relin, Turn, Swap}
 use Rattle.script_text.specs.declared.script.Step.{Step}
-use Rattle.script_text.specs.Scripts.{Script, is_linear, keys_needed, needs_of, registers}
+use Rattle.script_text.specs.Scripts.{Script, keys_needed, needs_of, registers}
 use Rattle.script_text.specs.Evaluating.{IsWithin}
 use Rattle.noise_check.specs.ExactBounds.{exact_bound, exact_bounds}
 use Rattle.key_switch.specs.Providers.{Digits}
 use Rattle.script_run.specs.Registers.{input_count}
 use Rattle.script_run.specs.Premises.{IsQuiet, RunPremise, StepPremise, TellsKey}
 use Rattle.script_text.proofs.Registers.{length-registers}
+use Rattle.script_run.proofs.KeyNeeds.{step_needs}
 use Rattle.script_run.proofs.Registers.{registers-kept}
 
 -- the bounds of the registers before step i
@@ -42,8 +42,7 @@ needed : (script : Script) (i : ℕ) (op : Op) (step : Step) (key : KeyKind × �
     → op ≡ step.op → keys_needed (degree_of script.set) op ≡ key ∷ [] → All P (needs_of script) → P key
 needed script i op step key P below is same one all =
     let needs : Step → List (KeyKind × ℕ) = λ (x : Step). keys_needed (degree_of script.set) x.op in
-    let here : needs (get_or script.steps i step) ≡ key ∷ []
-    = ap needs (get_or_from_slice_get script.steps i step step is) ∙ ap (keys_needed (degree_of script.set)) (sym same) ∙ one in
+    let here : needs (get_or script.steps i step) ≡ key ∷ [] = step_needs (degree_of script.set) script.steps i op step is same step ∙ one in
     let count : length (needs (get_or script.steps i step)) ≡ 1 = ap length here in
     let place : ℕ = length (flat_map needs (take i script.steps)) in
     let inside : place + 0 < length (needs_of script) = let few = length-flat_map-take needs script.steps i step below in omega arith in
@@ -77,29 +76,3 @@ step_premise n ctx told s script bounds i op step t plains set bounded premise b
     by (Relin a) same within = (premise.ternary, tells kind.Relin 0 (Relin a) same refl)
     by (Turn a k) same within = (premise.ternary, subst (λ (n : ℕ). TellsKey told ctx.set s kind.Turn (3 ^ k % (2 * n))) degree (tells kind.Turn _ (Turn a k) same refl))
     by (Swap a) same within = (premise.ternary, subst (λ (n : ℕ). TellsKey told ctx.set s kind.Turn (2 * n - 1)) degree (tells kind.Turn _ (Swap a) same refl))
-
--- a linear operation needs no key
-no_key : (n : ℕ) (op : Op) → is_linear op ≡ true → keys_needed n op ≡ []
-no_key n (Add a b) linear = refl
-no_key n (Sub a b) linear = refl
-no_key n (Neg a) linear = refl
-no_key n (AddPlain a p) linear = refl
-no_key n (SubPlain a p) linear = refl
-no_key n (MulPlain a p) linear = refl
-no_key n (MulConst a k) linear = refl
-no_key n (Mul a b) linear = refl
-no_key n (Relin a) linear = absurd cc
-no_key n (Turn a k) linear = absurd cc
-no_key n (Swap a) linear = absurd cc
-
-no_keys : (n : ℕ) (steps : List Step) → All (λ step. is_linear step.op ≡ true) steps → flat_map (λ (step : Step). keys_needed n step.op) steps ≡ []
-no_keys n [] linear = refl
-no_keys n (step ∷ steps) linear =
-    let needs : Step → List (KeyKind × ℕ) = λ (x : Step). keys_needed n x.op in
-    flat_map-cons needs step steps
-    ∙ ap (λ (keys : List (KeyKind × ℕ)). keys ++ flat_map needs steps) (no_key n step.op (linear 0 step (omega arith)))
-    ∙ no_keys n steps (λ i d below. linear (suc i) d (omega arith))
-
--- so a linear script needs none
-pub none_needed : (script : Script) (i : ℕ) → All (λ step. is_linear step.op ≡ true) script.steps → i < length (needs_of script) → ⊥
-none_needed script i linear below = let none = ap length (no_keys (degree_of script.set) script.steps linear) in omega arith

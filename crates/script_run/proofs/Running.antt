@@ -1,6 +1,6 @@
 -- What the places hold while a script runs.
 use Rattle.std.proofs.Common.{arith, ◌≡◌, ℕ, ℤ, suc, ◌+◌, ◌<◌, ◌≤◌, refl, sym, ap, subst, ◌∙◌, ⊎_elim, List, [], length, take, replicate, slice_index, slice_index_or, Some}
-use Rattle.std.specs.Prelude.{slice_get}
+use Rattle.std.specs.Prelude.{IfSome, slice_get}
 use Rattle.std.proofs.lemmas.Bool.{cases_eq}
 use Rattle.std.proofs.lemmas.List.{length-replicate}
 use Rattle.set_table.specs.declared.SetName.{SetName}
@@ -10,9 +10,10 @@ use Rattle.bfv_params.specs.Ciphers.{IsCipherOf}
 use Rattle.script_text.specs.declared.script.Op.{Op}
 use Rattle.script_text.specs.declared.script.Step.{Step}
 use Rattle.script_text.specs.declared.script.Shape.{Shape}
-use Rattle.script_text.specs.Scripts.{Script, registers, input_shape, shape_at, shape_made, is_cipher, is_plain, plain_inputs}
+use Rattle.script_text.specs.Scripts.{Script, IsSound, registers, input_shape, shape_at, shape_made, is_cipher, is_plain, operands_of, parts_taken, plain_inputs}
 use Rattle.script_text.specs.Value.{lists_of, value_made, value_of}
 use Rattle.script_text.specs.Evaluating.{IsWithin}
+use Rattle.script_text.proofs.StepsMade.{fits_at}
 use Rattle.script_run.proofs.Inputs.{lists_counted}
 use Rattle.noise_check.specs.ExactBounds.{exact_bound, exact_bounds}
 use Rattle.script_run.specs.Registers.{IsPlan, Live, input_count}
@@ -20,10 +21,10 @@ use Rattle.script_run.specs.Places.{cipher_at}
 use Rattle.key_switch.specs.Providers.{Digits}
 use Rattle.script_run.specs.Runs.{Carries, InputsCarry}
 use Rattle.script_run.specs.Premises.{RunPremise}
-use Rattle.script_run.specs.Steps.{StepDone}
+use Rattle.script_run.specs.Steps.{HaveTakenParts, OnOperands, StepDone}
 use Rattle.script_run.proofs.Registers.{registers-before, registers-result, registers-end}
 use Rattle.script_run.proofs.Premises.{bounds_before, step_premise}
-use Rattle.script_run.proofs.Live.{live_before, on_plain, on_reads, operand_live, output_live}
+use Rattle.script_run.proofs.Live.{live_before, on_plain, on_reads, one_of, operand_live, output_live, some_weaker}
 
 -- what the registers before step i are to have: shapes, values and bounds
 abbrev pub shapes_before : Script → ℕ → List Shape
@@ -41,6 +42,17 @@ pub record Ran (n : ℕ) (ctx : ContextValue) (told : Digits → Type 0) (script
   pub parts : (r : ℕ) → Live script i r → (cipher_at places (slice_index plan r)).parts ≡ (shape_at (shapes_before script i) r).parts
   pub carries : (s : ℕ → ℤ) (lists : List (List ℕ)) (bounds : List ℕ) → InputsCarry n ctx s script plan old plains lists bounds → RunPremise n ctx told s script bounds → (r : ℕ) → Live script i r
       → Carries n ctx s (cipher_at places (slice_index plan r)) (slice_index_or (values_before ctx.set script lists i) r []) (slice_index (bounds_before ctx.set script bounds i) r)
+
+-- the operands of a step have the parts that it takes
+pub taken_in : (n : ℕ) (ctx : ContextValue) (told : Digits → Type 0) (script : Script) (plan : List ℕ) (plains : List (List ℕ)) (old : List CipherValue) (i : ℕ) (places : List CipherValue) (op : Op) (step : Step) (t count : ℕ)
+    → Ran n ctx told script plan plains old i places → IsSound script → slice_get script.steps i ≡ Some step → op ≡ step.op → IsWithin t count (input_count script + i) op
+    → HaveTakenParts op (λ r. cipher_at places (slice_index plan r))
+taken_in n ctx told script plan plains old i places op step t count ran sound is same within =
+    let fits = fits_at script.set (length (plain_inputs script.inputs)) (replicate (input_count script) input_shape) script.steps i step sound.fit is in
+    let taken : IfSome (parts_taken op) (λ number. OnOperands op (λ r. (shape_at (shapes_before script i) r).parts ≡ number))
+    = subst (λ (o : Op). IfSome (parts_taken o) (λ number. OnOperands o (λ r. (shape_at (shapes_before script i) r).parts ≡ number))) (sym same) fits.taken in
+    some_weaker (parts_taken op) (λ number shapes. on_reads op _ (λ r reads.
+    ran.parts r (operand_live script i op step t count r is same within reads) ∙ one_of (λ r. (shape_at (shapes_before script i) r).parts ≡ number) (operands_of op) r shapes reads)) taken
 
 -- one step more
 module _ (n : ℕ) (ctx : ContextValue) (told : Digits → Type 0) (script : Script) (plan : List ℕ) (plains : List (List ℕ)) (old : List CipherValue) (i : ℕ) (places new : List CipherValue) (op : Op) (step : Step) (out : ℕ)

@@ -7,11 +7,11 @@ use Rattle.std.proofs.Math.Seq.{get_or-append_right, get_or-append_seam}
 use Rattle.bfv_params.specs.Values.{CipherValue, ContextValue}
 use Rattle.bfv_params.specs.Ciphers.{IsCipherOf}
 use Rattle.script_text.specs.declared.script.Op.{Op}
-use Rattle.script_text.specs.Scripts.{operands_of}
+use Rattle.script_text.specs.Scripts.{operands_of, parts_taken}
 use Rattle.key_switch.specs.Providers.{Digits}
 use Rattle.script_run.specs.Places.{cipher_at, no_cipher}
-use Rattle.script_run.specs.Steps.{OnOperands, ResultCarries, ResultHasParts, StepDone, IsOther, other_at}
-use Rattle.script_run.proofs.Live.{all_weaker}
+use Rattle.script_run.specs.Steps.{HaveTakenParts, OnOperands, ResultCarries, ResultHasParts, StepDone, IsOther, other_at}
+use Rattle.script_run.proofs.Live.{all_weaker, some_weaker}
 use Rattle.script_run.proofs.Results.{moved}
 
 -- what holds of each operand carries over
@@ -86,15 +86,26 @@ module _ (plan : List ℕ) (old front one back : List CipherValue) (is : old ≡
       let rest = length-append one back in
       on_operands op _ _ (λ r at. record { apart = at.1; inside = omega (arith, at.0) }) there
 
-  pub others_all : (P : CipherValue → Type 0) (op : Op) → ((p : ℕ) → p < length old → P (cipher_at old p))
+  -- what holds of the operands' ciphers among all places
+  pub others_of : (P : CipherValue → Type 0) (op : Op) → OnOperands op (λ r. P (cipher_at old (slice_index plan r)))
       → OnOperands op (λ r. (slice_index plan r < length old) × (slice_index plan r ≢ length front))
       → OnOperands op (λ r. P (other_at front back (slice_index plan r)))
-  others_all P op all there = on_operands op _ _ (λ r at. subst P (by one is single (slice_index plan r) at.1) (all (slice_index plan r) at.0)) there
+  others_of P op hold there = on_operands op _ _ (λ r both. subst P (by one is single (slice_index plan r) both.1.1) both.0) (on_both op _ _ hold there)
     where
       by : (one : List CipherValue) → old ≡ front ++ (one ++ back) → length one ≡ 1 → (p : ℕ) → p ≢ length front → cipher_at old p ≡ other_at front back p
       by [] is single p apart = absurd (omega (arith, single))
       by (x ∷ y ∷ rest) is single p apart = absurd (omega (arith, single))
       by (x ∷ []) is single p apart = ap (λ (places : List CipherValue). cipher_at places p) is ∙ other_is front back x p apart
+
+  pub others_all : (P : CipherValue → Type 0) (op : Op) → ((p : ℕ) → p < length old → P (cipher_at old p))
+      → OnOperands op (λ r. (slice_index plan r < length old) × (slice_index plan r ≢ length front))
+      → OnOperands op (λ r. P (other_at front back (slice_index plan r)))
+  others_all P op all there = others_of P op (on_operands op _ _ (λ r at. all (slice_index plan r) at.0) there) there
+
+  pub others_taken : (op : Op) → HaveTakenParts op (λ r. cipher_at old (slice_index plan r))
+      → OnOperands op (λ r. (slice_index plan r < length old) × (slice_index plan r ≢ length front))
+      → HaveTakenParts op (λ r. other_at front back (slice_index plan r))
+  others_taken op taken there = some_weaker (parts_taken op) (λ n hold. others_of (λ c. c.parts ≡ n) op hold there) taken
 
   pub middle_all : (P : CipherValue → Type 0) → ((p : ℕ) → p < length old → P (cipher_at old p)) → P (cipher_at one 0)
   middle_all P all =

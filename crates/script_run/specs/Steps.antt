@@ -4,7 +4,7 @@ use Rattle.std.specs.List.{AllByRecursion}
 use Rattle.set_table.specs.Sets.{plain_of, degree_of}
 use Rattle.script_text.specs.declared.script.Op.{Op}
 use Rattle.script_text.specs.declared.script.Shape.{Shape}
-use Rattle.script_text.specs.Scripts.{operands_of, shape_at, shape_made, plain_operand_of}
+use Rattle.script_text.specs.Scripts.{operands_of, parts_taken, shape_at, shape_made, plain_operand_of}
 use Rattle.script_text.specs.Value.{value_made}
 use Rattle.noise_check.specs.ExactBounds.{exact_bound}
 use Rattle.bfv_params.specs.Values.{CipherValue, ContextValue}
@@ -21,6 +21,10 @@ OnOperands op P = AllByRecursion P (operands_of op)
 -- P holds of the plain input that the operation reads, if it reads one
 abbrev pub OnPlain : Op → (ℕ → Type 0) → Type 0
 OnPlain op P = IfSome (plain_operand_of op) P
+
+-- each operand, which is given by its register, has the parts that the operation takes
+abbrev pub HaveTakenParts : Op → (ℕ → CipherValue) → Type 0
+HaveTakenParts op operand = IfSome (parts_taken op) (λ n. OnOperands op (λ r. (operand r).parts ≡ n))
 
 -- what an operation's result carries, if each operand, which is given by its register, carries these values within this bound and
 -- what the operation asks is so

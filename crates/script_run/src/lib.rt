@@ -4,14 +4,14 @@
 //! and the result is read; then they may be filled again.
 #![tactic(auto)]
 
+mod key_needs;
 mod laws;
-mod linear;
 mod run;
 mod step;
 #[cfg(test)]
 mod tests;
 mod workspace;
 
+pub use key_needs::first_needing_key;
 pub use laws::law_of_live;
-pub use linear::first_nonlinear;
 pub use workspace::Workspace;

@@ -1,9 +1,9 @@
 //! All steps of a script.
 
-ghost use Rattle.std.specs.Prelude.{◌≡◌, ℕ, ◌+◌, ◌*◌, ◌<◌, ◌≤◌, ℤ, List, [], length, slice_index, slice_index_or, true, All};
-ghost use Rattle.set_table.specs.Sets.{degree_of, plain_of};
+ghost use Rattle.std.specs.Prelude.{◌≡◌, ℕ, ◌+◌, ◌*◌, ◌<◌, ◌≤◌, ℤ, List, [], length, slice_index, slice_index_or};
+ghost use Rattle.set_table.specs.Sets.{data_of, degree_of, plain_of};
 ghost use Rattle.ring_law.specs.Rows.{IsReduced};
-ghost use Rattle.script_text.specs.Scripts.{shape_at, shapes_of, plain_inputs, is_linear};
+ghost use Rattle.script_text.specs.Scripts.{shape_at, shapes_of, plain_inputs, needs_of};
 ghost use Rattle.script_text.specs.Value.{value_of};
 ghost use Rattle.noise_check.specs.ExactBounds.{exact_bounds};
 ghost use Rattle.bfv_params.specs.Ciphers.{IsCipherOf};
@@ -31,7 +31,8 @@ pub fn run<const N: usize>(
 ) -> usize
     requires degree { N ≡ degree_of (ctx.now).set }
     requires same_set { script.now.set ≡ (ctx.now).set }
-    requires linear { All (λ step. is_linear step.op ≡ true) script.now.steps }
+    requires level { (ctx.now).level ≡ length (data_of (ctx.now).set) }
+    requires keyless { needs_of script.now ≡ [] }
     requires plan { IsPlan script.now plan.now (length ciphers.old) }
     requires places { (p : ℕ) → p < length ciphers.old → IsCipherOf ctx.now (cipher_at ciphers.old p) }
     requires parts { (r : ℕ) → r < input_count script.now → (cipher_at ciphers.old (slice_index plan.now r)).parts ≡ 2 }

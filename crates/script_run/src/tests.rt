@@ -1,18 +1,18 @@
-//! A run whose words were worked out from the definitions, in whole numbers.
+//! Runs against checksums over all words of their results, which were worked out from the definitions in whole numbers.
 
-ghost use Rattle.std.specs.Prelude.{◌≡◌, ℕ, ◌+◌, ◌<◌, ◌≤◌, [], length, slice_index, slice_index_or, true, All};
+ghost use Rattle.std.specs.Prelude.{◌≡◌, ℕ, ◌+◌, ◌<◌, ◌≤◌, [], length, slice_index, slice_index_or};
 ghost use Rattle.ring_law.specs.Rows.{IsReduced};
 ghost use Rattle.bfv_params.specs.Moduli.{data_at};
 ghost use Rattle.set_table.specs.Sets.{data_of, plain_of};
-ghost use Rattle.script_text.specs.Scripts.{plain_inputs, is_linear};
+ghost use Rattle.script_text.specs.Scripts.{plain_inputs, needs_of};
 ghost use Rattle.bfv_params.specs.Ciphers.{IsCipherOf};
 ghost use Rattle.script_run.specs.Registers.{input_count};
 ghost use Rattle.script_run.specs.Workspaces.{MadeFor, SameShape, input_of};
 
-use crate::{Workspace, first_nonlinear};
+use crate::{Workspace, first_needing_key};
 use bfv_params::{Cipher, Context};
 use key_switch::{KeyFault, Keys};
-use rns_poly::ViewMut;
+use rns_poly::{View, ViewMut};
 use script_text::{Script, parse};
 use set_table::{KeyKind, SetName};
 use std::alloc::Global;
@@ -54,49 +54,21 @@ impl<const N: usize> Keys<N> for UnreadableKey {
 }
 
 /// A script of all linear steps.
-const SCRIPT: &[u8] =
+const LINEAR: &[u8] =
     b"set toy16\ncipher a\nplain p\ncipher b\nc = add a b\nd = subp c p\ne = mulp d p\nf = neg e\ng = mulk f 200\nh = addp g p\ni = sub h a\noutput i\n";
 
-const RESULT: [[u64; 16]; 4] = [
-    [
-        1208182627651,
-        4317198873948,
-        7393400764216,
-        3158733376051,
-        4155577605980,
-        2326567931671,
-        5420381327159,
-        7835711837338,
-        1930963627418,
-        5979405347254,
-        593926106591,
-        1351985695010,
-        3572400902934,
-        3427661834623,
-        3516171839410,
-        6160914979372,
-    ],
-    [
-        2190466688458,
-        7084790699635,
-        5407714635826,
-        8624962578874,
-        6366043808859,
-        1642850013833,
-        5749975053916,
-        4825871912393,
-        205356259339,
-        8488058413746,
-        5270810462635,
-        5818427143408,
-        2361596898872,
-        7632407366798,
-        2190466677186,
-        2909213573833,
-    ],
-    [0; 16],
-    [0; 16],
-];
+/// A script of a product and a square.
+const PRODUCTS: &[u8] =
+    b"set toy16\ncipher a\nplain p\ncipher b\nc = mul a b\nd = mul b b\ne = addp c p\nf = sub e d\noutput f\n";
+
+/// The number of a result's parts, and the checksum over all their words.
+#[derive(Clone, Copy)]
+struct Expected {
+    parts: u8,
+    sum: u64,
+}
+
+const FACTOR: u64 = 0x5851_f42d_4c95_7f2d;
 
 fn multiples<const N: usize>(factor: u64, q: u64) -> [u64; N]
     requires degree { N ≤ 32768 }
@@ -159,19 +131,31 @@ fn fill_plain_input<const N: usize>(ctx: &Context<N>, space: &mut Workspace<N>)
     fill_plain(ctx.plain_modulus().value(), space.plain_slot(0));
 }
 
+fn checksum<const N: usize>(view: View<'_, N>) -> u64
+    requires { N ≤ 32768 }
+{
+    let mut sum: u64 = 0;
+    for row in view.slice() {
+        for k in 0..N {
+            sum = sum.wrapping_mul(FACTOR).wrapping_add(row[k]);
+        }
+    }
+    sum
+}
+
 /// Executes a script of one plain input on the inputs that were filled in.
 fn check_result<const N: usize>(
     rt: &impl Abort,
     ctx: &Context<N>,
     script: &Script,
     space: &mut Workspace<N>,
-    expected: &[[u64; N]],
+    expected: Expected,
 )
     requires degree { N ≤ 32768 }
     requires same_set { script.now.set ≡ (ctx.now).set }
     requires level { (ctx.now).level ≡ length (data_of (ctx.now).set) }
     requires made { MadeFor script.now space.old }
-    requires linear { All (λ step. is_linear step.op ≡ true) script.now.steps }
+    requires keyless { needs_of script.now ≡ [] }
     requires ciphers { (r : ℕ) → r < (space.old).inputs → IsCipherOf ctx.now (input_of space.old r) }
     requires parts { (r : ℕ) → r < input_count script.now → (input_of space.old r).parts ≡ 2 }
     requires plains { (p : ℕ) → p < length (plain_inputs script.now.inputs) → IsReduced N (plain_of (ctx.now).set) (slice_index_or (space.old).plains p []) }
@@ -180,12 +164,18 @@ fn check_result<const N: usize>(
     match space.execute(ctx, script, &mut keys) {
         Ok(()) => {
             let output = space.result();
-            assert_eq!(rt; output.parts(), 2);
-            for (row, words) in output.view().slice().iter().zip(expected) {
-                assert_eq!(rt; row, words);
-            }
+            assert_eq!(rt; output.parts(), expected.parts);
+            assert_eq!(rt; checksum(output.view()), expected.sum);
         }
-        Err(_) => panic!(rt; "a linear script reads no key"),
+        Err(_) => panic!(rt; "no key is read"),
+    }
+}
+
+fn check_keyless(rt: &impl Abort, script: &Script)
+    ensures { needs_of script.now ≡ [] }
+{
+    if first_needing_key(script).is_some() {
+        panic!(rt; "a step needs a key");
     }
 }
 
@@ -193,7 +183,7 @@ fn check_run<const N: usize>(
     rt: &impl Abort,
     alloc: Global,
     text: &[u8],
-    expected: &[[u64; N]],
+    expected: Expected,
 ) -> Result<(), Fail>
     requires { N ≤ 32768 }
 {
@@ -202,9 +192,7 @@ fn check_run<const N: usize>(
     assert_eq!(rt; set.degree(), N);
     assert_eq!(rt; script.ciphers(), 2);
     assert_eq!(rt; script.inputs(), 3);
-    let None = first_nonlinear(&script) else {
-        panic!(rt; "a step isn't linear");
-    };
+    check_keyless(rt, &script);
     let ctx = Context::<N>::new(alloc, set)?;
     let mut space = Workspace::<N>::new(alloc, &script, &ctx)?;
     fill_input(&ctx, &mut space, 0, 1234567891);
@@ -215,6 +203,19 @@ fn check_run<const N: usize>(
 }
 
 #[test]
-fn linear_script(rt: HostRuntime) -> Result<(), Fail> {
-    check_run::<16>(&rt, rt.alloc(), SCRIPT, &RESULT)
+fn a_linear_script(rt: HostRuntime) -> Result<(), Fail> {
+    let expected = Expected {
+        parts: 2,
+        sum: 0xb83f_7d66_1d15_eddd,
+    };
+    check_run::<16>(&rt, rt.alloc(), LINEAR, expected)
+}
+
+#[test]
+fn a_script_of_products(rt: HostRuntime) -> Result<(), Fail> {
+    let expected = Expected {
+        parts: 3,
+        sum: 0x42df_a9fe_7004_6c48,
+    };
+    check_run::<16>(&rt, rt.alloc(), PRODUCTS, expected)
 }

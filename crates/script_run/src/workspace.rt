@@ -1,10 +1,10 @@
 //! Workspaces.
 
-ghost use Rattle.std.specs.Prelude.{◌≡◌, ℕ, ◌+◌, ◌<◌, ◌≤◌, ℤ, List, [], length, slice_index, slice_index_or, slice_get, slice_set, Some, true, false, All, IfOk, OnOk, OnErr};
+ghost use Rattle.std.specs.Prelude.{◌≡◌, ℕ, ◌+◌, ◌<◌, ◌≤◌, ℤ, List, [], length, slice_index, slice_index_or, slice_get, slice_set, Some, true, false, IfOk, OnOk, OnErr};
 ghost use Rattle.std.specs.Borrow.{sem, Lends, Array, u64};
 ghost use Rattle.set_table.specs.Sets.{data_of, plain_of};
 ghost use Rattle.ring_law.specs.Rows.{IsReduced};
-ghost use Rattle.script_text.specs.Scripts.{shape_at, shapes_of, plain_inputs, is_linear};
+ghost use Rattle.script_text.specs.Scripts.{shape_at, shapes_of, plain_inputs, needs_of};
 ghost use Rattle.script_text.specs.Value.{value_of};
 ghost use Rattle.noise_check.specs.ExactBounds.{exact_bounds};
 ghost use Rattle.bfv_params.specs.Values.{zero_cipher};
@@ -101,10 +101,10 @@ impl<const N: usize> Workspace<N> {
         &mut self.plains[input]
     }
 
-    /// Executes the script on the inputs that were filled in. The script's steps are linear: sums,
-    /// differences, negatives and products with plain inputs and constants. Where the inputs' noise
-    /// leaves that of each register within a quarter of the ciphertext modulus, the result carries
-    /// the script's value. Afterwards the inputs are to be filled in anew.
+    /// Executes the script on the inputs that were filled in. The script's steps need no key: sums,
+    /// differences, negatives and products. Where the inputs' noise leaves that of each register
+    /// within a quarter of the ciphertext modulus, the result carries the script's value under each
+    /// ternary secret. Afterwards the inputs are to be filled in anew.
     pub fn execute<K: Keys<N>>(
         &mut self,
         ctx: &Context<N>,
@@ -114,7 +114,7 @@ impl<const N: usize> Workspace<N> {
         requires same_set { script.now.set ≡ (ctx.now).set }
         requires level { (ctx.now).level ≡ length (data_of (ctx.now).set) }
         requires made { MadeFor script.now self.old }
-        requires linear { All (λ step. is_linear step.op ≡ true) script.now.steps }
+        requires keyless { needs_of script.now ≡ [] }
         requires ciphers { (r : ℕ) → r < (self.old).inputs → IsCipherOf ctx.now (input_of self.old r) }
         requires parts { (r : ℕ) → r < input_count script.now → (input_of self.old r).parts ≡ 2 }
         requires plains { (p : ℕ) → p < length (plain_inputs script.now.inputs) → IsReduced N (plain_of (ctx.now).set) (slice_index_or (self.old).plains p []) }

@@ -1,17 +1,16 @@
 // The command `check`.
-ghost use Rattle.std.specs.Prelude.{◌≡◌, ◌≢◌, ◌<◌, ◌≤◌, ℕ, length, map, Some, IsSome, All, IfOk, IfErr};
-ghost use Rattle.std.specs.Option.{ForSome};
+ghost use Rattle.std.specs.Prelude.{◌≡◌, ◌<◌, ◌≤◌, length, map, Some, IsNone, IsSome, All};
 ghost use Rattle.std.specs.String.{string_bytes};
-ghost use Rattle.outer_io.specs.Store.{StoreState, OnlyReads};
 ghost use Rattle.set_table.specs.Sets.{special_of};
 ghost use Rattle.script_text.specs.Scripts.{cipher_inputs, needs_of};
 ghost use Rattle.noise_check.specs.Numbers.{numbers, AllCanonical};
 ghost use Rattle.noise_check.specs.Verdicts.{verdict_of};
-ghost use Rattle.command_words.specs.Form.{form_of, IsOperand};
+ghost use Rattle.command_words.specs.Form.{form_of};
 ghost use Rattle.command_words.specs.declared.form.Form.TheVariants as form;
-ghost use Rattle.command_model.specs.Answers.{IsOutputLine};
+ghost use Rattle.command_model.specs.Reading.{Output, accepted};
 ghost use Rattle.command_model.specs.Plan as plan;
-ghost use Rattle.command_stages.specs.Stages.{Planned, Prepared, Caused};
+ghost use Rattle.command_model.specs.Commanded.{Commanded};
+ghost use Rattle.command_stages.specs.Stages.{Came};
 
 use bound_num::Bound;
 use command_stages::read_script;
@@ -25,21 +24,10 @@ use std::alloc::Global;
 pub fn check<S: Store>(alloc: Global, words: &[String], store: &mut S) -> Result<Vec<u8>, Status>
     requires form { form_of (map string_bytes words.now) ≡ Some form.Check }
     requires count { length words.now ≡ 2 }
-    ensures keeps { OnlyReads (S.state store.old) (S.state store.new) }
-    ensures told { ForSome (S.state store.old).files (λ files.
-        Prepared (plan.plan_of_check (map string_bytes words.now) files) (λ v. v.items) result) }
-    ensures line { IfOk result (λ v. IsOutputLine (map string_bytes words.now) (S.state store.old).files v.items) }
-    ensures cause { IfErr result (λ s. Caused (IsOperand form.Check 2) (S.state store.old) (S.state store.new) s) }
-    ensures reads { IfErr result (λ s. s ≢ Status.WriteFault) }
+    ensures { Commanded (map string_bytes words.now) (λ line. Some line.items) (S.state store.old) (S.state store.new) result }
 {
-    let script = match read_script(alloc, store, words, 1) {
-        Ok(script) => script,
-        Err(status) => return Err(status),
-    };
-    let bound = match accepted_bound(alloc, &script) {
-        Ok(bound) => bound,
-        Err(status) => return Err(status),
-    };
+    let script = read_script(alloc, store, words, 1)?;
+    let bound = accepted_bound(alloc, &script)?;
     match accepted_line(alloc, bound) {
         Ok(line) => Ok(line),
         Err(_) => Err(Status::Memory),
@@ -49,18 +37,27 @@ pub fn check<S: Store>(alloc: Global, words: &[String], store: &mut S) -> Result
 /// The noise bound of a script's output, where all cipher inputs are fresh and the script is
 /// accepted.
 fn accepted_bound(alloc: Global, script: &Script) -> Result<Bound, Status>
-    ensures told { Planned (plan.checked script.now) (λ bound. plan.accepted bound) result }
-    ensures cause { IfErr result (λ s. (old : StoreState) (new : StoreState) → Caused (λ w. ⊥) old new s) }
-    ensures reads { IfErr result (λ s. s ≢ Status.WriteFault) }
+    ensures { Came (plan.checked script.now) accepted result }
 {
-    let set = script.set();
-    if switches(script) && set.special().is_none() {
-        return Err(Status::NoSpecial { set });
+    if let Some(refusal) = no_special(script) {
+        return Err(refusal);
     }
     let Ok(inputs) = fresh_bounds(alloc, script) else {
         return Err(Status::Memory);
     };
     output_bound(alloc, script, &inputs)
+}
+
+/// What is said of a script that switches keys, where its set has no special modulus.
+fn no_special(script: &Script) -> Option<Status>
+    ensures is { result ≡ plan.no_special script.now }
+    ensures special { IsNone result → 0 < length (needs_of script.now) → IsSome (special_of script.now.set) }
+{
+    let set = script.set();
+    if switches(script) && set.special().is_none() {
+        return Some(Status::NoSpecial { set });
+    }
+    None
 }
 
 /// The noise bound of a script's output, where its cipher inputs have these bounds and the script is
@@ -70,10 +67,7 @@ pub fn output_bound(alloc: Global, script: &Script, inputs: &[Bound]) -> Result<
     requires canonical { AllCanonical inputs.now }
     requires small { All (λ bound. bound.e ≤ MAX_INPUT_EXPONENT) inputs.now }
     requires special { 0 < length (needs_of script.now) → IsSome (special_of script.now.set) }
-    ensures told { Planned (plan.accepted_or_noisy script.now (verdict_of script.now (numbers inputs.now))) (λ bound. plan.accepted bound) result }
-    ensures cause { IfErr result (λ s. (old : StoreState) (new : StoreState) → Caused (λ w. ⊥) old new s) }
-    ensures reads { IfErr result (λ s. s ≢ Status.WriteFault) }
-    ensures read { IfErr result (λ s. (word : ℕ) → s ≢ Status.ReadFault word) }
+    ensures { (output : Bound → Output) → Came (plan.judged script.now (verdict_of script.now (numbers inputs.now)) output) output result }
 {
     match noise_check::check(alloc, script, inputs) {
         Ok(Verdict::Accepted(bounds)) => Ok(bounds.get(script.output() as usize)),

@@ -1,4 +1,4 @@
-// `run` on ciphers and texts of `toy16`.
+// `run` on ciphers and texts.
 ghost use Rattle.std.specs.Prelude.{◌≡◌, None, IfOk};
 ghost use Rattle.outer_io.specs.Memory.{pending_name};
 
@@ -31,6 +31,19 @@ const TEN_TIMES: &str =
     r4 = mulk r3 128\nr5 = mulk r4 128\nr6 = mulk r5 128\nr7 = mulk r6 128\nr8 = mulk r7 128\n\
     r9 = mulk r8 128\nrx = mulk r9 128\noutput rx\n";
 
+/// The squares of the values from 1 to 16 modulo 257.
+const SQUARES: &str = "1 4 9 16 25 36 49 64\n81 100 121 144 169 196 225 256\n";
+
+/// A script that squares its input.
+const SQUARE: &str = "cipher a\nb = mul a a\noutput b\n";
+
+/// A script that multiplies its inputs.
+const PRODUCT: &str = "cipher a\ncipher b\nc = mul a b\noutput c\n";
+
+/// A script that takes a product from a square and adds a text.
+const PRODUCTS: &str = "cipher a\ncipher b\nplain w\nc = mul a b\nd = mul a a\n\
+    e = sub d c\nf = addp e w\noutput f\n";
+
 /// What `run` leads to: what it printed, its output's length and the bound that it states, and the
 /// values that come back.
 #[derive(Drop)]
@@ -42,16 +55,24 @@ struct Outcome {
     values: Vec<u8>,
 }
 
-/// A store with two ciphers of one secret, `c` of the values from 1 to 16 and `d` of those back to
-/// 1, which `w` lists; with ciphers of another set, of another
-/// secret and of three parts; and with a script.
-fn store_of(alloc: Global, script: &str) -> Result<MemStore, AllocError>
+/// A store with two ciphers of one secret of a set, `c` of the values from 1 to 16 and `d` of those
+/// back to 1, which `w` lists.
+fn two_ciphers(alloc: Global, set: &str) -> Result<MemStore, AllocError>
     ensures { IfOk result (λ s. pending_name s.pending ≡ None) }
 {
-    let mut store = made(alloc, "toy16", SIXTEEN)?;
+    let mut store = made(alloc, set, SIXTEEN)?;
     store.put_file("w", b"16 15 14 13 12 11 10 9 8 7 6 5 4 3 2 1")?;
     store.put_file("s2", &seed(2))?;
     run(alloc, &mut store, &["encrypt", "pub", "s2", "w", "d"])?;
+    Ok(store)
+}
+
+/// Such a store of `toy16` with ciphers of another set, of another secret and of three parts, and
+/// with a script.
+fn store_of(alloc: Global, script: &str) -> Result<MemStore, AllocError>
+    ensures { IfOk result (λ s. pending_name s.pending ≡ None) }
+{
+    let mut store = two_ciphers(alloc, "toy16")?;
     store.put_file("one", &cipher_file(alloc)?)?;
     store.put_file("five", &toy_cipher_file(alloc, FIRST_RESIDUES[0])?)?;
     store.put_file("three", &long_toy_cipher_file(alloc)?)?;
@@ -72,16 +93,12 @@ fn outcome_of(alloc: Global, script: &str, texts: &[&str]) -> Result<Outcome, Al
             *place = *byte;
         }
     }
-    let values = match store.file("values") {
-        Some(text) => text.to_vec(alloc)?,
-        None => Vec::new(alloc),
-    };
     Ok(Outcome {
         status,
         printed,
         length,
         bound,
-        values,
+        values: bytes_of(alloc, &store, "values")?,
     })
 }
 
@@ -124,10 +141,125 @@ fn scripts_run_on_ciphers(rt: HostRuntime) -> Result<(), Fail> {
     Ok(())
 }
 
+/// What `run` of a script with products leads to: the file that it writes, the values that come
+/// back, and what `run` of a script that hands its input on then prints of that file.
+#[derive(Drop)]
+struct Multiplied {
+    status: Status,
+    written: Vec<u8>,
+    values: Vec<u8>,
+    refusal: Vec<u8>,
+}
+
+/// Runs such a script on a store of two ciphers of a set.
+fn multiplied(
+    alloc: Global,
+    set: &str,
+    script: &str,
+    texts: &[&str],
+) -> Result<Multiplied, AllocError> {
+    let mut store = two_ciphers(alloc, set)?;
+    store.put_file("script", &script_for(alloc, set, script)?)?;
+    store.put_file("same", &script_for(alloc, set, "cipher a\noutput a\n")?)?;
+    let (status, _) = run(alloc, &mut store, texts)?;
+    run(alloc, &mut store, &["decrypt", "sec", "x", "values"])?;
+    let (_, refusal) = run(alloc, &mut store, &["run", "same", "y", "a=x"])?;
+    Ok(Multiplied {
+        status,
+        written: bytes_of(alloc, &store, "x")?,
+        values: bytes_of(alloc, &store, "values")?,
+        refusal,
+    })
+}
+
+fn script_for(alloc: Global, set: &str, lines: &str) -> Result<Vec<u8>, AllocError> {
+    let mut text = b"set ".to_vec(alloc)?;
+    text.extend_from_slice(set.as_bytes())?;
+    text.extend_from_slice(b"\n")?;
+    text.extend_from_slice(lines.as_bytes())?;
+    Ok(text)
+}
+
+/// What a file holds, or no bytes.
+fn bytes_of(alloc: Global, store: &MemStore, name: &str) -> Result<Vec<u8>, AllocError> {
+    match store.file(name) {
+        Some(bytes) => bytes.to_vec(alloc),
+        None => Ok(Vec::new(alloc)),
+    }
+}
+
+// The lengths, bounds and digests of the files that an independent program writes of the same
+// operands.
+#[test]
+fn products_are_written_as_elsewhere(rt: HostRuntime) -> Result<(), Fail> {
+    let rows: [(&str, &str, &[&str], usize, [u8; 8], &str, &str); 5] = [
+        (
+            "toy16",
+            SQUARE,
+            &["run", "script", "x", "a=c"],
+            864,
+            [0x99, 0x97, 0x6e, 0xf0, 2, 0, 0, 0],
+            "bdff46e3b921cbe52e69b59d4505d762b446ecf61bce83eee99bad40ab599e60",
+            SQUARES,
+        ),
+        (
+            "one16",
+            SQUARE,
+            &["run", "script", "x", "a=c"],
+            480,
+            [0x15, 0x53, 0x6e, 0xf0, 2, 0, 0, 0],
+            "ca02a5b12aa829be1a11e72842af5b7fa0fec0f88bbbbf707d26f36a197d90e1",
+            SQUARES,
+        ),
+        (
+            "toy16",
+            PRODUCT,
+            &["run", "script", "x", "a=c", "b=d"],
+            864,
+            [0x99, 0x97, 0x6e, 0xf0, 2, 0, 0, 0],
+            "01f877493cef2eb90a992149e7c814d730e8de193c92a04c7ed0289bf489c254",
+            "16 30 42 52 60 66 70 72\n72 70 66 60 52 42 30 16\n",
+        ),
+        (
+            "toy16",
+            PRODUCTS,
+            &["run", "script", "x", "a=c", "b=d", "w=w"],
+            864,
+            [0xba, 0x97, 0x6e, 0xf0, 3, 0, 0, 0],
+            "be2effafc308acc61a4719124f5d0dc125cbaff0b8aa5933cebf1c0bee615dc1",
+            "1 246 238 234 234 238 246 1\n17 37 61 89 121 157 197 241\n",
+        ),
+        (
+            "one16",
+            PRODUCTS,
+            &["run", "script", "x", "a=c", "b=d", "w=w"],
+            480,
+            [0x36, 0x53, 0x6e, 0xf0, 3, 0, 0, 0],
+            "b6669060111b2d1045643e15f4b18c2ba334e97555950e2fb232d6213d4f01fb",
+            "1 246 238 234 234 238 246 1\n17 37 61 89 121 157 197 241\n",
+        ),
+    ];
+    for (set, script, texts, length, bound, digits, values) in rows {
+        let o = multiplied(rt.alloc(), set, script, texts)?;
+        assert_eq!(rt; o.status, Status::Done, "{set} {script}");
+        assert_eq!(rt; o.written.len(), length);
+        assert_eq!(rt; o.written.get(32..40), Some(bound.as_slice()));
+        let mut digest = [0; 32];
+        assert!(rt; hex::decode_to_slice(digits, &mut digest).is_ok());
+        assert!(rt; o.written.ends_with(&digest), "{set} {script}");
+        assert_eq!(rt; o.values.as_slice(), values.as_bytes());
+        assert_eq!(rt;
+            o.refusal.as_slice(),
+            b"parts mismatch: x has 3, wanted 2\n".as_slice()
+        );
+    }
+    Ok(())
+}
+
 #[test]
 fn runs_are_refused(rt: HostRuntime) -> Result<(), Fail> {
     const TWO: &str = "set toy16\ncipher a\ncipher b\nc = add a b\noutput c\n";
-    let rows: [(&str, &[&str], u8, &str); 17] = [
+    let rows: [(&str, &[&str], u8, &str); 19] = [
         (SAME, &["run", "script"], 2, "usage\n"),
         (SAME, &["run", "script", "x", "a=c", "a"], 2, "usage\n"),
         (SAME, &["run", "script", "x", "a="], 2, "usage\n"),
@@ -139,10 +271,22 @@ fn runs_are_refused(rt: HostRuntime) -> Result<(), Fail> {
             "missing file: none\n",
         ),
         (
-            "set toy16\ncipher a\nb = mul a a\noutput b\n",
+            "set toy16\ncipher a\nb = mul a a\nc = relin b\noutput c\n",
+            &["run", "script", "x", "b=c"],
+            14,
+            "bad script: syntax line 4\n",
+        ),
+        (
+            "set toy16\ncipher a\nb = swap a\nc = turn a 1\noutput c\n",
             &["run", "script", "x", "b=c"],
             14,
             "bad script: syntax line 3\n",
+        ),
+        (
+            "set toy16\ncipher a\nb = mul a a\nc = turn b 1\noutput c\n",
+            &["run", "script", "x", "b=c"],
+            14,
+            "bad script: shape line 4\n",
         ),
         (
             SAME,

@@ -1,25 +1,23 @@
-use Rattle.std.proofs.Common.{◌≡◌, inl, inr, ⊎_elim, List, ℕ, map, ap, sym, subst, ◌∙◌}
+use Rattle.std.proofs.Common.{◌≡◌, inl, inr, ⊎_elim, sym, ap, subst, ◌∙◌, map, refl}
 use Rattle.std.specs.Prelude.{Err}
 use Rattle.std.specs.String.{string_bytes}
 use Rattle.std.proofs.lemmas.Result.{IfOk-weaker, IfErr-weaker}
-use Rattle.outer_io.specs.Store.{file, contents}
-use Rattle.batch_text.specs.Commands.{commands_of}
-use Rattle.command_model.specs.Answers.{IsFault}
-use Rattle.command_model.specs.Plan.{plan_of_batch, taken_batch, batch_or_fault}
+use Rattle.batch_text.specs.Reading.{texts}
+use Rattle.command_words.specs.declared.status.Status.TheVariants.{BadScript}
+use Rattle.command_model.specs.Reading.{batch_file, or_refused}
+use Rattle.command_stages.specs.Stages.{Took}
+use Rattle.command_stages.proofs.Taking.{RefusedBy, took_text, batch_refused}
 use Rattle.bfv_commands.proofs.BatchForms.{commands_of_front}
 use Rattle.bfv_commands.proofs.batch.read_batch.Goals as goal
 
-pub returns-in-Ok-clause-told : goal.returns-in-Ok-clause-told
-returns-in-Ok-clause-told g c = λ files told.
-    let words = map string_bytes c.args.words.now in
-    let read = (c.in-Ok.ensures.told files told).ok in
-    let same : batch_or_fault (commands_of c.deref.result.now) ≡ plan_of_batch words files =
-    ap (λ (text : List ℕ). batch_or_fault (commands_of text)) (c.deref.ensures.value ∙ read.1.0)
-    ∙ ap batch_or_fault (commands_of_front (contents files c.name_of.result.now))
-    ∙ ap (taken_batch 1) (sym read.0)
-    ∙ ap (λ (name : List ℕ). taken_batch 1 (file files name)) c.name_of.ensures in
-    record {
-      ok = IfOk-weaker c.take_commands.result _ _ (λ listed is. sym same ∙ ap batch_or_fault is) c.take_commands.ensures.ok;
-      err = IfErr-weaker c.take_commands.result _ _
-          (λ status is. ⊎_elim (λ memory. inl (subst IsFault (sym memory) tt)) (λ bad. inr (sym same ∙ ap batch_or_fault bad.1.1 ∙ ap Err (sym bad.1.0))) is) c.take_commands.ensures.err;
-    }
+pub returns-in-Ok-clause-took : goal.returns-in-Ok-clause-took
+returns-in-Ok-clause-took g c =
+    let state = g.S.Store.state in
+    let text = c.deref.result.now in
+    subst (λ name. Took name 1 batch_file (λ said v. texts v.items ≡ said) (state c.args.store.now) (state c.read_front.new.store) c.take_commands.result) c.name_of.ensures
+    (took_text c.name_of.result.now 1 batch_file (λ said v. texts v.items ≡ said) (state c.args.store.now) (state c.read_front.new.store) c.take_commands.result 1048577 text c.in-Ok.ensures.keeps
+    (λ files told. let read = (c.in-Ok.ensures.told files told).ok in (read.0, c.deref.ensures.value ∙ read.1.0))
+    (λ bytes. ap (or_refused BadScript) (commands_of_front bytes)) (λ said bytes. tt)
+    (IfOk-weaker c.take_commands.result _ _ (λ v is. (texts v.items, (refl, ap (or_refused BadScript) is))) c.take_commands.ensures.ok)
+    (IfErr-weaker c.take_commands.result _ _ (λ status is. ⊎_elim inl (λ (place, (status_is, refused)).
+    inr (subst (RefusedBy 1 batch_file text) (sym status_is) (batch_refused 1 text place (ap (or_refused BadScript) refused)))) is) c.take_commands.ensures.err))

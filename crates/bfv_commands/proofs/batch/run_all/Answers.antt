@@ -17,10 +17,8 @@ single-status-requires-clause-one g c =
 pub returns-then-ne-clause-order : goal.returns-then-ne-clause-order
 returns-then-ne-clause-order g c =
     let at = words_at c.args.commands.now c.commands.words-index c.words-item.result c.commands-test.true c.words-item.is in
-    let h = rw c.deref.ensures.value at c.single-status.ensures in
     let other : c.single-status.result ≢ Done = search rules in
-    stopped c.commands.words-index _ _ at c.commands.invariant.chain other
-    record { idle = h.idle; told = h.told; complete = h.complete; stands = h.stands; cause = h.cause; printed = h.printed; counts = h.counts; puts = h.puts }
+    stopped c.commands.words-index _ _ at c.commands.invariant.chain other (rw c.deref.ensures.value at c.single-status.ensures)
 
 pub commands-preserved : goal.commands-preserved
 commands-preserved g c =
@@ -31,13 +29,11 @@ commands-preserved g c =
     let mid : World = record { store = store c.commands.store; sink = sink c.commands.out } in
     let new : World = record { store = store c.single-status.new.store; sink = sink c.single-status.new.out } in
     let at = words_at c.args.commands.now c.commands.words-index c.words-item.result c.commands-test.true c.words-item.is in
-    let h = rw c.deref.ensures.value at c.single-status.ensures in
     let is_done : c.single-status.result ≡ Done = search rules in
-    let step : Answered words mid new c.single-status.result =
-    record { idle = h.idle; told = h.told; complete = h.complete; stands = h.stands; cause = h.cause; printed = h.printed; counts = h.counts; puts = h.puts } in
+    let step : Answered words mid new c.single-status.result = rw c.deref.ensures.value at c.single-status.ensures in
     record {
       chain = chain_grows (texts c.args.commands.now) old mid new c.commands.words-index words at c.commands.invariant.chain (subst (Answered words mid new) is_done step);
-      idle = c.single-status.ensures.idle;
+      idle = step.idle;
     }
 
 pub returns-clause-order : goal.returns-clause-order

@@ -1,6 +1,7 @@
-use Rattle.std.proofs.Common.{rules, ◌≡◌, ℕ, ◌<◌, List, [], length, map, All, slice_index, sym, ◌∙◌, ap, subst}
+use Rattle.std.proofs.Common.{rules, arith, ◌≡◌, ℕ, ◌<◌, List, [], length, map, All, slice_index, sym, ◌∙◌, ap, subst}
 use Rattle.std.specs.Prelude.{slice_index_or}
 use Rattle.std.specs.String.{string_bytes}
+use Rattle.std.proofs.lemmas.Result.{err_from_is_err_and}
 use Rattle.set_table.specs.declared.SetName.{SetName}
 use Rattle.set_table.specs.Sets.{degree_of, data_of, plain_of}
 use Rattle.ring_law.specs.Rows.{IsReduced}
@@ -16,7 +17,7 @@ use Rattle.script_run.specs.Runs.{Carries, InputsCarry}
 use Rattle.script_run.specs.Workspaces.{input_of, output_of, whole_context}
 use Rattle.command_model.specs.Plan.{stated_bounds}
 use Rattle.script_run.proofs.Plans.{still_made}
-use Rattle.script_run.proofs.Premises.{none_needed}
+use Rattle.command_stages.proofs.Writing.{unmade_before}
 use Rattle.run_operands.specs.BoundFiles.{MayBeBound}
 use Rattle.bfv_commands.specs.Filled.{AreListed}
 use Rattle.bfv_commands.proofs.Executing.{AreRead, inputs_apart, inputs_carry, owner_ternary, zero_of_context}
@@ -55,8 +56,10 @@ fill_ciphers-requires g c =
       ),
     )
 
-pub returns-in-Err-clause-told : goal.returns-in-Err-clause-told
-returns-in-Err-clause-told g c = λ files told contents held. record { ok = tt; err = (c.in-Err.ensures.told files told contents held).err }
+pub returns-in_err-fill_ciphers-clause-made : goal.returns-in_err-fill_ciphers-clause-made
+returns-in_err-fill_ciphers-clause-made g c = λ contents.
+    let p = err_from_is_err_and c.from_residual.result c.from_residual.ensures.1 in
+    rw (p.1, p.2) (unmade_before (c.in_err-fill_ciphers.ensures.made contents))
 
 pub execute-requires : goal.execute-requires
 execute-requires g c =
@@ -65,7 +68,7 @@ execute-requires g c =
     let ctx = c.in-Ok.ctx in
     let made = c.in-Ok-new.ensures.made in
     let filled = c.fill_plains.ensures in
-    let read = c.in-Ok-fill_ciphers.ensures in
+    let read = c.in_ok-fill_ciphers.ensures in
     let old = c.in-Ok-new.space in
     let between = c.fill_plains.new.space in
     let new = c.fill_ciphers.new.space in
@@ -97,7 +100,7 @@ execute-requires g c =
             (
               new_made,
               (
-                c.requires.linear,
+                c.requires.keyless,
                 (
                   λ r below. subst (λ (x : ContextValue). IsCipherOf x (input_of new r)) (ap whole_context of_set ∙ sym context) (read.of_context r below),
                   (
@@ -117,9 +120,10 @@ execute-requires g c =
       ),
     )
 
-pub returns-clause-told : goal.returns-clause-told
-returns-clause-told g c = λ files told contents held. record {
-  ok = λ owner plains lists listed sealed quiet.
+pub returns-clause-made : goal.returns-clause-made
+returns-clause-made g c = λ contents. record {
+  keeps = (c.in_ok-fill_ciphers.ensures.made contents).keeps;
+  ok = λ files told held owner plains lists listed sealed quiet.
       let n = g.row.N in
       let script = c.args.script.now in
       let words = map string_bytes c.args.words.now in
@@ -129,7 +133,7 @@ returns-clause-told g c = λ files told contents held. record {
       let places = c.args.places.now in
       let made = c.in-Ok-new.ensures.made in
       let filled = c.fill_plains.ensures in
-      let read = c.in-Ok-fill_ciphers.ensures in
+      let read = c.in_ok-fill_ciphers.ensures in
       let space = c.fill_ciphers.new.space in
       let s = secret_polynomial owner.secret in
       let bounds = stated_bounds contents in
@@ -141,7 +145,7 @@ returns-clause-told g c = λ files told contents held. record {
         counted = c.requires.cipher_count;
         bound = c.requires.bound;
         held = held;
-        words_read = (read.told files told contents held).ok;
+        words_read = (read.made contents).ok files told held;
       } in
       let carry = inputs_carry n script space words files count ciphers contents operands places owner plains lists are_read c.requires.plain_count
       (subst (AreListed operands places) (sym read.plains) filled.filled) listed sealed in
@@ -150,7 +154,8 @@ returns-clause-told g c = λ files told contents held. record {
       record {
         ternary = owner_ternary n script contents owner plains lists c.set-set.ensures.sound sealed;
         quiet = subst (λ (x : ContextValue). IsQuiet x script bounds) (sym context) quiet;
-        keys = λ i key below. absurd (none_needed script i c.requires.linear below);
+        keys = λ i key below. let none = ap length c.requires.keyless in absurd (omega (arith, none, below));
       });
   err = tt;
+  reads = tt;
 }

@@ -12,4 +12,4 @@ unreachable-requires c =
     absurd (cc)
 
 pub returns : goal.returns
-returns c = λ files planned are. c.in-Some.ensures.told (map string_bytes c.args.words.now) files planned are
+returns c = c.in-Some.ensures.told

@@ -1,58 +1,50 @@
-use Rattle.std.proofs.Common.{◌≡◌, inl, inr, ⊎_elim, ◌+◌, ◌<◌, ◌≤◌, List, length, map, sym, ap, subst, arith}
+use Rattle.std.proofs.Common.{◌≡◌, ◌+◌, ◌<◌, ◌≤◌, List, length, map, sym, ap, subst, arith}
 use Rattle.std.specs.String.{string_bytes}
-use Rattle.command_words.specs.Status.{parts_of}
-use Rattle.run_operands.specs.BoundFiles.{AreOperands}
+use Rattle.std.proofs.lemmas.Result.{err_from_is_err_and}
+use Rattle.bound_num.specs.declared.Bound.{Bound}
+use Rattle.noise_check.specs.Verdicts.{verdict_of}
+use Rattle.command_words.specs.declared.form.Form.TheVariants as form
+use Rattle.command_model.specs.Bindings.{bound_names, ciphers_of}
+use Rattle.command_model.specs.Reading.{running}
+use Rattle.command_model.specs.Plan.{judged, run_of, run_on, stated_bounds}
+use Rattle.command_stages.proofs.Causes.{caused_as}
+use Rattle.command_stages.proofs.Ways.{not_refused, refused_by, operand_named, stopped_by}
+use Rattle.run_operands.specs.BoundFiles.{AreSeen}
+use Rattle.run_operands.specs.Demands.{CiphersFit}
 use Rattle.run_operands.specs.declared.bound_files.Operand.{Operand}
-use Rattle.key_commands.proofs.Decryptions.{caused_as}
-use Rattle.command_stages.proofs.RunPlans.{run_unbound, run_mismatched}
+use Rattle.bfv_commands.proofs.InputNames.{binding_operand}
 use Rattle.bfv_commands.proofs.run_script.matched_operands.Goals as goal
 
-pub returns-in-Err-clause-refused : goal.returns-in-Err-clause-refused
-returns-in-Err-clause-refused g c = λ files told read.
+pub returns-in_err-operands-clause-err : goal.returns-in_err-operands-clause-err
+returns-in_err-operands-clause-err g c = λ begun way.
+    let rest = run_on c.args.script.now (bound_names (map string_bytes c.args.words.now)) in
+    let p = err_from_is_err_and c.from_residual.result c.from_residual.ensures.1 in
+    rw (p.1, p.2) (c.in_err-operands.ensures.came rest begun c.requires.form way).err
+
+pub returns-in_err-match_operands-clause-err : goal.returns-in_err-match_operands-clause-err
+returns-in_err-match_operands-clause-err g c = λ begun way.
     let words = map string_bytes c.args.words.now in
     let script = c.args.script.now in
-    let operands = c.in-Err.ensures.told files told in
-    record {
-      why = ⊎_elim inl (λ is. inr (run_unbound words files script c.in-Err.status read c.requires.built c.requires.bound is)) operands.err;
-      reached = λ word fault past.
-          let behind = (c.in-Err.ensures.cause.word word (ap (λ s. (parts_of s).word) fault)).0 in
-          record {
-            script = script;
-            read = read;
-            built = c.requires.built;
-            well_bound = c.requires.bound;
-            before = operands.reached word fault behind;
-          };
-    }
+    let names = bound_names words in
+    let now = g.S.Store.state c.read_operands.new.store in
+    let (planned, (seen, (bound, (again, here)))) = (c.in_ok-operands.ensures.came (run_on script names) begun c.requires.form way).ok in
+    let seen_here = subst (λ (found : List Operand). AreSeen found planned) (sym c.deref.ensures.value) seen in
+    let status = c.in_err-match_operands.field-0.0 in
+    let count : 3 + length c.deref.result.now ≡ length c.args.words.now = let all = c.in_ok-operands.ensures.count in omega (arith, ap length c.deref.ensures.value) in
+    let p = err_from_is_err_and c.from_residual-in_err-match_operands.result c.from_residual-in_err-match_operands.ensures.1 in
+    rw (p.1, p.2) (stopped_by status
+    (refused_by (judged script (verdict_of script (stated_bounds (ciphers_of script names planned))) (λ (bound : Bound). running (run_of script names planned bound)))
+    (c.in_err-match_operands.ensures.err planned seen_here) here)
+    c.in_err-match_operands.ensures.none
+    (caused_as (λ w is. operand_named form.Run words w c.requires.form (binding_operand c.args.words.now w (is.0, subst (λ n. w < n) count is.1))) (c.in_err-match_operands.ensures.cause now now)))
 
-pub returns-in-Err-match_operands-clause-refused : goal.returns-in-Err-match_operands-clause-refused
-returns-in-Err-match_operands-clause-refused g c = λ files told read.
+pub returns-clause-ok : goal.returns-clause-ok
+returns-clause-ok g c = λ begun way.
     let words = map string_bytes c.args.words.now in
     let script = c.args.script.now in
-    let operands = (c.in-Ok.ensures.told files told).ok in
-    let are = subst (λ (found : List Operand). AreOperands words files found operands.0) (sym c.deref.ensures.value) operands.1.1 in
-    record {
-      why = inr (run_mismatched words files script operands.0 c.in-Err-match_operands.status read c.requires.built c.requires.bound operands.1.0
-          (c.in-Err-match_operands.ensures.err words files operands.0 are));
-      reached = λ word fault past. absurd (c.in-Err-match_operands.ensures.read word fault);
-    }
+    let (planned, (seen, (bound, (again, here)))) = (c.in_ok-operands.ensures.came (run_on script (bound_names words)) begun c.requires.form way).ok in
+    let matched = c.in_ok-match_operands.ensures.ok planned (subst (λ (found : List Operand). AreSeen found planned) (sym c.deref.ensures.value) seen) in
+    record { planned = planned; seen = seen; bound = bound; again = again; matched = matched; way = not_refused matched here }
 
-pub returns-in-Err-match_operands-clause-cause : goal.returns-in-Err-match_operands-clause-cause
-returns-in-Err-match_operands-clause-cause g c =
-    let state = g.S.Store.state in
-    let status = c.in-Err-match_operands.status in
-    let count : 3 + length c.deref.result.now ≡ length c.args.words.now = let all = c.in-Ok.ensures.count in omega (arith, ap length c.deref.ensures.value) in
-    caused_as (λ w. (3 ≤ w) × (w < 3 + length c.deref.result.now)) (λ w. (3 ≤ w) × (w < length c.args.words.now)) (state c.args.store.now) (state c.read_operands.new.store) status
-    (λ w is. (is.0, subst (λ n. w < n) count is.1)) (c.in-Err-match_operands.ensures.cause (state c.args.store.now) (state c.read_operands.new.store))
-
-pub returns-in-Ok-match_operands-clause-matched : goal.returns-in-Ok-match_operands-clause-matched
-returns-in-Ok-match_operands-clause-matched g c = λ files told.
-    let words = map string_bytes c.args.words.now in
-    let operands = (c.in-Ok.ensures.told files told).ok in
-    let are = subst (λ (found : List Operand). AreOperands words files found operands.0) (sym c.deref.ensures.value) operands.1.1 in
-    record {
-      planned = operands.0;
-      taken = operands.1.0;
-      read = operands.1.1;
-      matched = c.in-Ok-match_operands.ensures.ok words files operands.0 are;
-    }
+pub returns-clause-ciphers : goal.returns-clause-ciphers
+returns-clause-ciphers g c = subst (λ (operands : List Operand). CiphersFit c.args.script.now.set operands) c.deref.ensures.value c.in_ok-match_operands.ensures.fit

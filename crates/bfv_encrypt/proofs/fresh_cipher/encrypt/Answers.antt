@@ -61,7 +61,7 @@ returns-clause-words g c =
     let Second : List ℕ → Type 0 = λ qs. EachRepresents n qs c.part-second.result.rows.now (λ i z. pos (p 1 i z)) → AreTransforms (map (transform_of set) qs) c.transform_small_into.new.out u
     → EachRepresents n qs c.masked_part.new.out (λ i. ring_sum (ring_product n (λ z. pos (p 1 i z)) (u i)) (listed_polynomial c.error_row-2.new.out)) in
     let cleared = c.set_parts.ensures in
-    let level : c.set_parts.new.self.level ≡ L = cleared.level ∙ c.requires.out_level ∙ c.requires.level in
+    let level : c.set_parts.new.self.level ≡ L = cleared.level ∙ c.requires.out_of.level ∙ c.requires.level in
     let start : c.set_parts.new.self.parts * c.set_parts.new.self.level ≡ 2 * L = ap₂ (λ (a b : ℕ). a * b) cleared.parts level in
     let rows_are : length c.set_parts.new.self.rows ≡ 3 * L = cleared.kept.size ∙ ap (λ (a : ℕ). 3 * a) level in
     cipher_words n moduli q t p m words c.plain_part.new.out c.masked_part.new.out c.set_parts.new.self.rows c.set_part.new.self.rows c.set_part-2.new.self.rows

@@ -47,7 +47,7 @@ returns-clause-rules g c =
     let reduced : ReducedInTurn g.row.N count (data_of head.set) cipher.rows =
     subst (λ (moduli : List ℕ). ReducedInTurn g.row.N count moduli cipher.rows) (take_all count (data_of head.set) (omega arith))
     (subst (λ (level : ℕ). ReducedInTurn g.row.N level (take level (data_of head.set)) cipher.rows) c.requires.level kept.reduced) in
-    parts_keep_rules head g.row.N head.parts cipher.rows c.requires.rules c.has_its_length.ensures kept.degree
+    parts_keep_rules head g.row.N head.parts cipher.rows c.requires.rules kept.degree
     (ap (λ (k : FileKind). row_moduli k head.set) c.requires.kind)
     (ap (λ (d : ℕ). head.parts * count * d) kept.degree ∙ sym total)
     (cipher_within head.parts count cipher.level (length cipher.rows) (subst (λ (p : ℕ). (p ≡ 2) ⊎ (p ≡ 3)) c.requires.parts kept.count) c.requires.level kept.size) reduced

@@ -28,6 +28,6 @@ returns-clause-rules g c =
     let kept = subst (λ (set : SetName). IsPublic g.row.N set rows) c.requires.set c.view.ensures.kept in
     let total : head.words ≡ 2 * length (data_of head.set) * degree_of head.set =
     c.requires.rules.count ∙ ap (λ (k : FileKind). row_count k head.set head.parts * degree_of head.set) c.requires.kind in
-    parts_keep_rules head g.row.N 2 rows c.requires.rules c.has_its_length.ensures kept.degree
+    parts_keep_rules head g.row.N 2 rows c.requires.rules kept.degree
     (ap (λ (k : FileKind). row_moduli k head.set) c.requires.kind)
     (ap (λ (d : ℕ). 2 * length (data_of head.set) * d) kept.degree ∙ sym total) (omega (arith, kept.size)) kept.reduced

@@ -27,7 +27,7 @@ returns-clause-ok g c =
 
 pub returns-clause-rules : goal.returns-clause-rules
 returns-clause-rules g c =
-    secret_keeps_rules c.args.head.now g.row.N c.args.secret.now.small c.requires.rules c.has_its_length.ensures c.requires.kind
+    secret_keeps_rules c.args.head.now g.row.N c.args.secret.now.small c.requires.rules c.requires.kind
     (c.small.ensures.kept.degree ∙ ap degree_of c.requires.set)
 
 pub returns-clause-meaning : goal.returns-clause-meaning

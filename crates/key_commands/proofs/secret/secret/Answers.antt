@@ -1,18 +1,22 @@
-use Rattle.std.proofs.Common.{◌≡◌, map, sym, ◌∙◌, ap}
-use Rattle.std.specs.Prelude.{Some}
-use Rattle.std.proofs.lemmas.Result.{IfErr-weaker}
+use Rattle.std.proofs.Common.{◌≡◌, ℕ, List, map, refl, sym, ◌∙◌, ap}
+use Rattle.std.specs.Prelude.{Some, option_and_then}
 use Rattle.std.specs.String.{string_bytes}
-use Rattle.file_model.specs.DrawnFiles.{drawn_secret_file}
+use Rattle.std.proofs.lemmas.Result.{err_from_is_err_and}
+use Rattle.set_table.specs.declared.SetName.{SetName}
 use Rattle.set_table.specs.Sets.{set_named}
-use Rattle.command_words.specs.Form.{IsOperand}
+use Rattle.outer_io.specs.Store.{StoreState}
+use Rattle.file_model.specs.FileText.{file_text}
+use Rattle.file_model.specs.DrawnFiles.{drawn_secret_file}
+use Rattle.command_words.specs.Form.{form_of}
 use Rattle.command_words.specs.Line.{word_at}
 use Rattle.command_words.specs.declared.form.Form.TheVariants as form
 use Rattle.command_words.proofs.Words.{secret_names_set}
-use Rattle.command_model.specs.Plan.{file_with, seed_word}
-use Rattle.command_stages.specs.Stages.{Caused}
-use Rattle.key_commands.proofs.Decryptions.{caused_as, caused_behind}
-use Rattle.command_stages.proofs.Planning.{secret_planned}
-use Rattle.command_stages.proofs.Running.{ran_written}
+use Rattle.command_model.specs.Reading.{Reading, seed_file, read_word, done, file_with}
+use Rattle.command_model.specs.Plan.{seed_word}
+use Rattle.command_model.specs.Plain.{drawn}
+use Rattle.command_stages.specs.Stages.{Way}
+use Rattle.command_stages.proofs.Ways.{start, with_set, taken_on, says_taken, operand_named, stopped_at, commanded, commanded_stop}
+use Rattle.key_commands.proofs.MadeItems.{item_drawn}
 use Rattle.key_commands.proofs.secret.secret.Goals as goal
 
 pub unreachable-requires : goal.unreachable-requires
@@ -23,22 +27,34 @@ unreachable-requires g c =
     let some = named.1 in
     cc
 
-pub returns-clause-told : goal.returns-clause-told
-returns-clause-told g c = λ files told.
+-- what is left to read once the set is known
+abbrev by_seed : List (List ℕ) → SetName → Reading
+by_seed words set = read_word words 2 seed_file (λ seed. done (file_with (drawn_secret_file set (seed_word seed))))
+
+-- no file was read yet
+begun : (words : List (List ℕ)) (state : StoreState) (set : SetName) → form_of words ≡ Some form.Secret → set_named (word_at words 1) ≡ Some set → Way words (by_seed words set) state state
+begun words state set is named = with_set (by_seed words) named (start form.Secret words state is)
+
+pub returns-in_err-seed : goal.returns-in_err-seed
+returns-in_err-seed g c =
     let words = map string_bytes c.args.words.now in
     let set : set_named (word_at words 1) ≡ Some c.in-Some.set = sym (ap set_named c.name_of.ensures) ∙ sym c.from_text.ensures.named ∙ c.in-Some.is in
-    let seed = (c.in-Ok.ensures.told files told).ok in
-    let wrote = c.write_drawn.ensures.told files (c.in-Ok.ensures.keeps.files ∙ told) in
-    ran_written form.Secret words files _ c.name_of-2.result.now (file_with (drawn_secret_file c.in-Some.set (seed_word c.in-Ok.seed))) c.write_drawn.result
-    (ap Some (sym c.name_of-2.ensures)) (secret_planned words files c.in-Some.set c.in-Ok.seed set seed) wrote
+    let took = c.in_err-seed.ensures in
+    let p = err_from_is_err_and c.from_residual.result c.from_residual.ensures.1 in
+    rw (p.1, p.2) (commanded_stop c.in_err-seed.field-0.0 took.keeps
+    (stopped_at (begun words (g.S.Store.state c.args.store.now) c.in-Some.set c.requires.form set) took.keeps took.err (operand_named form.Secret words 2 c.requires.form refl)))
 
-pub returns-clause-cause : goal.returns-clause-cause
-returns-clause-cause g c =
-    let named = IsOperand form.Secret 4 in
-    let old = g.S.Store.state c.args.store.now in
-    let between = g.S.Store.state c.read_seed.new.store in
-    let new = g.S.Store.state c.write_drawn.new.store in
-    IfErr-weaker c.write_drawn.result (Caused (λ w. ⊥) between new) (Caused named old new)
-    (λ status cause. caused_behind named old between new status c.in-Ok.ensures.keeps
-    (caused_as (λ w. ⊥) named between new status (λ w never. absurd never) cause))
-    c.write_drawn.ensures.cause
+pub returns : goal.returns
+returns g c =
+    let words = map string_bytes c.args.words.now in
+    let set : set_named (word_at words 1) ≡ Some c.in-Some.set = sym (ap set_named c.name_of.ensures) ∙ sym c.from_text.ensures.named ∙ c.in-Some.is in
+    let (seed, (same, held)) = c.in_ok-seed.ensures.ok in
+    let way = taken_on seed (begun words (g.S.Store.state c.args.store.now) c.in-Some.set c.requires.form set) c.in_ok-seed.ensures.keeps held in
+    commanded form.Secret c.name_of-2.result.now c.write_drawn.result c.requires.form (ap Some (sym c.name_of-2.ensures)) way c.write_drawn.ensures (λ files told. tt) (λ word never. absurd never)
+    (λ bytes is.
+    let made : bytes ≡ file_text (drawn_secret_file c.in-Some.set (seed_word seed)) = is ∙ ap (λ s. file_text (drawn_secret_file c.in-Some.set (seed_word s))) same in
+    record {
+      written = made;
+      stands = λ files told state stands item is_made. item_drawn words files state c.in-Some.set seed bytes item stands (says_taken (held.says files told)) made
+          (ap (option_and_then (λ set. drawn set (state (word_at words 2)))) (sym set) ∙ is_made);
+    })

@@ -8,10 +8,10 @@ use Rattle.run_operands.proofs.Demanded.{id_at_cipher, id_behind_values, key_id_
 use Rattle.run_operands.proofs.matching.first_key_id.Goals as goal
 
 pub returns-in-Cipher-clause-told : goal.returns-in-Cipher-clause-told
-returns-in-Cipher-clause-told c = λ words files planned are.
+returns-in-Cipher-clause-told c = λ planned are.
     let operands = c.args.operands.now in
     let at = item_there operands c.loop-operand.operand-index c.operand-item.result (Cipher c.in-Cipher.head) (omega arith) c.operand-item.is c.in-Cipher.is in
-    sym (c.loop-operand.invariant.rest ∙ id_at_cipher operands c.loop-operand.operand-index c.in-Cipher.head at) ∙ key_id_seen words files operands planned are
+    sym (c.loop-operand.invariant.rest ∙ id_at_cipher operands c.loop-operand.operand-index c.in-Cipher.head at) ∙ key_id_seen operands planned are
 
 pub returns-in-Cipher-clause-seen : goal.returns-in-Cipher-clause-seen
 returns-in-Cipher-clause-seen c =

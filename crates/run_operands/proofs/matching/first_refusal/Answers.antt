@@ -12,8 +12,8 @@ pub returns-then-is_some : goal.returns-then-is_some
 returns-then-is_some c =
     let operands = c.args.operands.now in
     let at = item_there operands c.loop-place.place c.index-operands-place.result c.index-operands-place.result (omega arith) c.index-operands-place.is refl in
-    let rest = plan.first_refusal (refusal_of c.args.demand) (3 + (c.loop-place.place + 1)) (drop (c.loop-place.place + 1) (map operand_seen operands)) in
-    sym (c.loop-place.invariant ∙ refusal_from (refusal_of c.args.demand) operands c.loop-place.place c.index-operands-place.result at
+    let rest = plan.first_refusal (plan.of_cipher (refusal_of c.args.demand)) (3 + (c.loop-place.place + 1)) (drop (c.loop-place.place + 1) (map operand_seen operands)) in
+    sym (c.loop-place.invariant ∙ refusal_from (plan.of_cipher (refusal_of c.args.demand)) operands c.loop-place.place c.index-operands-place.result at
     ∙ ap (λ (f : Option Status). option_or f rest) (sym c.refusal-refused.ensures)
     ∙ first_of c.refusal-refused.result rest (sym c.is_some.ensures ∙ c.if-is_some.true))
 
@@ -21,7 +21,7 @@ pub loop-place-preserved : goal.loop-place-preserved
 loop-place-preserved c =
     let operands = c.args.operands.now in
     let at = item_there operands c.loop-place.place c.index-operands-place.result c.index-operands-place.result (omega arith) c.index-operands-place.is refl in
-    let rest = plan.first_refusal (refusal_of c.args.demand) (3 + (c.loop-place.place + 1)) (drop (c.loop-place.place + 1) (map operand_seen operands)) in
-    c.loop-place.invariant ∙ refusal_from (refusal_of c.args.demand) operands c.loop-place.place c.index-operands-place.result at
+    let rest = plan.first_refusal (plan.of_cipher (refusal_of c.args.demand)) (3 + (c.loop-place.place + 1)) (drop (c.loop-place.place + 1) (map operand_seen operands)) in
+    c.loop-place.invariant ∙ refusal_from (plan.of_cipher (refusal_of c.args.demand)) operands c.loop-place.place c.index-operands-place.result at
     ∙ ap (λ (f : Option Status). option_or f rest) (sym c.refusal-refused.ensures)
     ∙ rest_of c.refusal-refused.result rest (sym c.is_some.ensures ∙ c.if-is_some.false)

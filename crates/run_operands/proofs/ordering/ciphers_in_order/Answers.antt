@@ -10,7 +10,7 @@ use Rattle.script_text.specs.Scripts.{cipher_inputs, is_cipher}
 use Rattle.run_operands.specs.BoundFiles.{MayBeBound}
 use Rattle.run_operands.specs.Ordered.{IsCipherOf}
 use Rattle.run_operands.proofs.Places.{element_at}
-use Rattle.run_operands.proofs.InOrder.{zip_passed, zip_failed, cipher_is_cipher, plain_no_cipher, ciphers_bound, ciphers_held}
+use Rattle.run_operands.proofs.InOrder.{zip_passed, zip_failed, cipher_is_cipher, plain_no_cipher, ciphers_bound, ciphers_held, ciphers_stated}
 use Rattle.run_operands.proofs.ordering.ciphers_in_order.Goals as goal
 use Rattle.run_operands.proofs.ordering.ciphers_in_order.Goals.{in-Cipher+in_ok-push-in-Cipher, in-Plain}
 
@@ -51,6 +51,14 @@ returns-clause-bound c = λ r cipher at.
     let zip = subst (λ (is : List Input). AllZip (IsCipherOf c.args.script.now words c.args.operands.now) (cipher_inputs is) c.loop-input.ciphers.items) all c.loop-input.invariant in
     subst (λ count. MayBeBound c.args.script.now.set count cipher) (length-map c.args.words.now string_bytes)
     (ciphers_bound c.args.script.now words c.args.operands.now c.loop-input.ciphers.items zip r cipher at)
+
+pub returns-clause-stated : goal.returns-clause-stated
+returns-clause-stated c =
+    let words = map string_bytes c.args.words.now in
+    let inputs = c.args.script.now.inputs in
+    let all : take c.loop-input.input inputs ≡ inputs = take_all c.loop-input.input inputs (omega arith) in
+    let zip = subst (λ (is : List Input). AllZip (IsCipherOf c.args.script.now words c.args.operands.now) (cipher_inputs is) c.loop-input.ciphers.items) all c.loop-input.invariant in
+    ciphers_stated c.args.script.now words c.args.operands.now c.loop-input.ciphers.items zip
 
 pub returns-clause-held : goal.returns-clause-held
 returns-clause-held c =

@@ -1,13 +1,14 @@
-use Rattle.std.proofs.Common.{rules, arith, ◌≡◌, ◌<◌, ◌+◌, ℕ, ap, ◌∙◌, sym, subst, refl, ◌≢◌, length, slice_index, suc}
-use Rattle.set_table.specs.Sets.{plain_of}
-use Rattle.script_text.specs.Scripts.{plain_inputs}
+use Rattle.std.proofs.Common.{rules, arith, ◌≡◌, ◌<◌, ◌+◌, ℕ, ap, ◌∙◌, sym, subst, refl, ◌≢◌, [], length, slice_index, suc}
+use Rattle.set_table.specs.Sets.{degree_of, plain_of}
+use Rattle.script_text.specs.Scripts.{keys_needed, plain_inputs}
 use Rattle.script_text.specs.Evaluating.{IsWithin}
 use Rattle.script_text.proofs.StepsMade.{within_at}
 use Rattle.script_run.specs.Registers.{input_count}
 use Rattle.script_run.specs.Premises.{no_digits}
 use Rattle.script_run.specs.Steps.{OnOperands}
-use Rattle.script_run.proofs.Live.{linear_at, on_plain, operands_there, step_found, within_more}
-use Rattle.script_run.proofs.Running.{Ran, ran_next, carries_end}
+use Rattle.script_run.proofs.KeyNeeds.{keyless_at}
+use Rattle.script_run.proofs.Live.{on_plain, operands_there, step_found, within_more}
+use Rattle.script_run.proofs.Running.{Ran, ran_next, carries_end, taken_in}
 use Rattle.script_run.proofs.run.run.Goals as goal
 
 pub step-requires-in-loop-i : goal.step-requires-in-loop-i
@@ -33,19 +34,25 @@ step-requires-in-loop-i g c =
             (
               c.requires.degree,
               (
-                linear_at script.steps i op found.0 c.requires.linear below found.1 found.2,
+                c.requires.level,
                 (
-                  within_more _ _ _ _ _ op c.requires.plain_count (omega arith) within,
+                  subst (λ (n : ℕ). keys_needed n op ≡ []) (ap degree_of c.requires.same_set ∙ sym c.requires.degree) (keyless_at script i op found.0 c.requires.keyless below found.1 found.2),
                   (
-                    subst (λ (n : ℕ). slice_index c.args.plan.now (c.ciphers-inputs.result + i) < n) (sym ran.size) (planned.within (c.ciphers-inputs.result + i) (omega arith)),
+                    within_more _ _ _ _ _ op c.requires.plain_count (omega arith) within,
                     (
-                      subst (λ (n : ℕ). OnOperands op (λ r. (slice_index c.args.plan.now r < n) × (slice_index c.args.plan.now r ≢ slice_index c.args.plan.now (c.ciphers-inputs.result + i)))) (sym ran.size)
-                          (operands_there script c.args.plan.now (length c.args.ciphers.now) i op found.0 _ _ _ planned below found.1 found.2 within (ap (slice_index c.args.plan.now) here)),
+                      subst (λ (n : ℕ). slice_index c.args.plan.now (c.ciphers-inputs.result + i) < n) (sym ran.size) (planned.within (c.ciphers-inputs.result + i) (omega arith)),
                       (
-                        ran.of_context,
+                        subst (λ (n : ℕ). OnOperands op (λ r. (slice_index c.args.plan.now r < n) × (slice_index c.args.plan.now r ≢ slice_index c.args.plan.now (c.ciphers-inputs.result + i)))) (sym ran.size)
+                            (operands_there script c.args.plan.now (length c.args.ciphers.now) i op found.0 _ _ _ planned below found.1 found.2 within (ap (slice_index c.args.plan.now) here)),
                         (
-                          on_plain _ _ _ op _ within c.requires.plains,
-                          c.loop-i.invariant.scratch_rows ∙ c.requires.scratch_rows,
+                          ran.of_context,
+                          (
+                            taken_in g.row.N c.args.ctx.now no_digits script c.args.plan.now c.args.plains.now c.args.ciphers.now i c.loop-i.ciphers op found.0 _ _ ran c.output-output.ensures.sound found.1 found.2 within,
+                            (
+                              on_plain _ _ _ op _ within c.requires.plains,
+                              c.loop-i.invariant.scratch_rows ∙ c.requires.scratch_rows,
+                            ),
+                          ),
                         ),
                       ),
                     ),

@@ -1,7 +1,7 @@
-use Rattle.std.proofs.Common.{length, slice_index}
+use Rattle.std.proofs.Common.{rules, length, slice_index}
 use Rattle.script_run.specs.Premises.{no_digits}
 use Rattle.script_run.specs.Steps.{other_at}
-use Rattle.script_run.proofs.Results.{add_result, sub_result, neg_result, mul_const_result, add_plain_result, sub_plain_result, mul_plain_result}
+use Rattle.script_run.proofs.Results.{add_result, sub_result, neg_result, mul_const_result, add_plain_result, sub_plain_result, mul_plain_result, multiply_result, square_result}
 use Rattle.script_run.proofs.step.operate.Goals as goal
 
 pub returns-in-Add-clause-carries : goal.returns-in-Add-clause-carries
@@ -47,3 +47,15 @@ returns-in-MulPlain-clause-carries g c =
     c.other-in-MulPlain.result.now c.mul_plain.new.out c.args.op c.in-MulPlain.a c.other-in-MulPlain.ensures
     c.in-MulPlain.p (length c.args.plan.now) c.encode-in-MulPlain.new.row c.index-plains-p-in-MulPlain.result c.in-MulPlain.is c.requires.within c.requires.degree c.index-plains-p-in-MulPlain.is
     c.encode-in-MulPlain.ensures.slots c.mul_plain.ensures.product
+
+pub returns-in-Mul-clause-carries : goal.returns-in-Mul-clause-carries
+returns-in-Mul-clause-carries g c =
+    square_result g.row.N c.args.ctx.now no_digits c.args.plains.now (λ r. other_at c.args.front.now c.args.back.now (slice_index c.args.plan.now r))
+    c.other-in-Mul.result.now c.square.new.out c.args.op c.in-Mul.a c.other-in-Mul.ensures c.requires.degree c.requires.level
+    (search rules) c.square.ensures.product
+
+pub returns-in-Mul-2-clause-carries : goal.returns-in-Mul-2-clause-carries
+returns-in-Mul-2-clause-carries g c =
+    multiply_result g.row.N c.args.ctx.now no_digits c.args.plains.now (λ r. other_at c.args.front.now c.args.back.now (slice_index c.args.plan.now r))
+    c.other-in-Mul-2.result.now c.multiply.new.out c.args.op c.in-Mul-2.a c.other-in-Mul-2.ensures c.requires.degree c.requires.level
+    c.other-in-Mul-2-2.result.now c.in-Mul-2.b c.in-Mul-2.is c.other-in-Mul-2-2.ensures c.multiply.ensures.product

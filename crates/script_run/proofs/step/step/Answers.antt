@@ -5,7 +5,7 @@ use Rattle.bfv_params.specs.Ciphers.{IsCipherOf}
 use Rattle.script_run.specs.Places.{no_cipher}
 use Rattle.script_run.specs.Premises.{no_digits}
 use Rattle.script_run.specs.Steps.{StepDone}
-use Rattle.script_run.proofs.SplitPlaces.{apart_from, middle_all, on_operands, others_all, others_inside, step_done}
+use Rattle.script_run.proofs.SplitPlaces.{apart_from, middle_all, on_operands, others_all, others_inside, others_taken, step_done}
 use Rattle.script_run.proofs.step.step.Goals as goal
 
 pub returns-clause-done : goal.returns-clause-done
@@ -35,19 +35,25 @@ operate-requires g c =
             (
               c.requires.degree,
               (
-                c.requires.linear,
+                c.requires.level,
                 (
-                  c.requires.within,
+                  c.requires.keyless,
                   (
-                    others_inside c.args.plan.now c.args.ciphers.now split.result.0.now rest.result.0.now rest.result.1.now whole rest.ensures.front_len c.args.op apart,
+                    c.requires.within,
                     (
-                      others_all c.args.plan.now c.args.ciphers.now split.result.0.now rest.result.0.now rest.result.1.now whole rest.ensures.front_len (IsCipherOf c.args.ctx.now) c.args.op c.requires.ciphers apart,
+                      others_inside c.args.plan.now c.args.ciphers.now split.result.0.now rest.result.0.now rest.result.1.now whole rest.ensures.front_len c.args.op apart,
                       (
-                        c.requires.plains,
+                        others_all c.args.plan.now c.args.ciphers.now split.result.0.now rest.result.0.now rest.result.1.now whole rest.ensures.front_len (IsCipherOf c.args.ctx.now) c.args.op c.requires.ciphers apart,
                         (
-                          subst (IsCipherOf c.args.ctx.now) (get_or_default rest.result.0.now 0 no_cipher c.index-one-0.result (omega (arith, rest.ensures.front_len)))
-                              (middle_all c.args.plan.now c.args.ciphers.now split.result.0.now rest.result.0.now rest.result.1.now whole rest.ensures.front_len (IsCipherOf c.args.ctx.now) c.requires.ciphers),
-                          (c.requires.scratch_rows),
+                          others_taken c.args.plan.now c.args.ciphers.now split.result.0.now rest.result.0.now rest.result.1.now whole rest.ensures.front_len c.args.op c.requires.parts apart,
+                          (
+                            c.requires.plains,
+                            (
+                              subst (IsCipherOf c.args.ctx.now) (get_or_default rest.result.0.now 0 no_cipher c.index-one-0.result (omega (arith, rest.ensures.front_len)))
+                                  (middle_all c.args.plan.now c.args.ciphers.now split.result.0.now rest.result.0.now rest.result.1.now whole rest.ensures.front_len (IsCipherOf c.args.ctx.now) c.requires.ciphers),
+                              (c.requires.scratch_rows),
+                            ),
+                          ),
                         ),
                       ),
                     ),

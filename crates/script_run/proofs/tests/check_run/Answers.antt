@@ -80,7 +80,7 @@ check_result-requires g c =
                 (
                   still_made script _ _ (still_made script _ _ (still_made script _ _ c.in_ok-space.ensures.made one_filled) two_filled) filled,
                   (
-                    c.first_nonlinear.ensures.none (search rules),
+                    c.check_keyless.ensures,
                     (
                       c.fill_plain_input.ensures.of_context,
                       (

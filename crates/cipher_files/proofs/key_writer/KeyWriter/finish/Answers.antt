@@ -18,5 +18,5 @@ returns-clause-ok g c = λ name word has.
 pub returns-clause-rules : goal.returns-clause-rules
 returns-clause-rules g c = λ name word has.
     let writing = c.requires.writing in
-    key_keeps_rules c.args.self.head word writing.rules c.has_its_length.ensures writing.is_key
+    key_keeps_rules c.args.self.head word writing.rules writing.is_key
     (λ i j r k digit. has.reduced i j r k (subst (λ (put : ℕ). i < put) (sym c.requires.all_put) digit))

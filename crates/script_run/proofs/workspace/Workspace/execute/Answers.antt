@@ -10,7 +10,6 @@ use Rattle.script_run.specs.Registers.{IsPlan, input_count}
 use Rattle.script_run.specs.Places.{cipher_at}
 use Rattle.script_run.specs.Runs.{Carries, InputsCarry}
 use Rattle.script_run.specs.Workspaces.{MadeFor, IsWorkspace, WorkspaceValue, input_of}
-use Rattle.script_run.proofs.Premises.{none_needed}
 use Rattle.script_run.proofs.Plans.{kept_after, written_whole, places_of_context, scratch_of_context}
 use Rattle.script_run.proofs.workspace.Workspace.execute.Goals as goal
 
@@ -42,21 +41,24 @@ run-self-inside-requires g c =
               (
                 c.requires.same_set,
                 (
-                  c.requires.linear,
+                  c.requires.level,
                   (
-                    subst (λ (places : List CipherValue). IsPlan script c.deref.result.now (length places)) ciphers_are
-                        (subst (λ (plan : List ℕ). IsPlan script plan (length inside.ciphers.items)) plan_is made.plan),
+                    c.requires.keyless,
                     (
-                      subst (λ (places : List CipherValue). (p : ℕ) → p < length places → IsCipherOf ctx (cipher_at places p)) ciphers_are
-                          (places_of_context g.row.N space (length inside.scratch) ctx c.self.invariant same c.requires.level inputs),
+                      subst (λ (places : List CipherValue). IsPlan script c.deref.result.now (length places)) ciphers_are
+                          (subst (λ (plan : List ℕ). IsPlan script plan (length inside.ciphers.items)) plan_is made.plan),
                       (
-                        subst (λ (places : List CipherValue). (r : ℕ) → r < input_count script → (cipher_at places (slice_index c.deref.result.now r)).parts ≡ 2) ciphers_are
-                            (subst (λ (plan : List ℕ). (r : ℕ) → r < input_count script → (cipher_at inside.ciphers.items (slice_index plan r)).parts ≡ 2) plan_is parts),
+                        subst (λ (places : List CipherValue). (p : ℕ) → p < length places → IsCipherOf ctx (cipher_at places p)) ciphers_are
+                            (places_of_context g.row.N space (length inside.scratch) ctx c.self.invariant same c.requires.level inputs),
                         (
-                          subst (λ (lists : List (List ℕ)). length (plain_inputs script.inputs) ≤ length lists) plains_are made.plains,
+                          subst (λ (places : List CipherValue). (r : ℕ) → r < input_count script → (cipher_at places (slice_index c.deref.result.now r)).parts ≡ 2) ciphers_are
+                              (subst (λ (plan : List ℕ). (r : ℕ) → r < input_count script → (cipher_at inside.ciphers.items (slice_index plan r)).parts ≡ 2) plan_is parts),
                           (
-                            subst (λ (lists : List (List ℕ)). (p : ℕ) → p < length (plain_inputs script.inputs) → IsReduced g.row.N (plain_of ctx.set) (slice_index_or lists p [])) plains_are plains,
-                            scratch_of_context g.row.N space (length inside.scratch) ctx c.self.invariant same c.requires.level,
+                            subst (λ (lists : List (List ℕ)). length (plain_inputs script.inputs) ≤ length lists) plains_are made.plains,
+                            (
+                              subst (λ (lists : List (List ℕ)). (p : ℕ) → p < length (plain_inputs script.inputs) → IsReduced g.row.N (plain_of ctx.set) (slice_index_or lists p [])) plains_are plains,
+                              scratch_of_context g.row.N space (length inside.scratch) ctx c.self.invariant same c.requires.level,
+                            ),
                           ),
                         ),
                       ),
@@ -116,8 +118,9 @@ returns-clause-value g c =
     (subst (λ (places : List CipherValue). InputsCarry g.row.N ctx s script inside.plan.items places c.deref-2.result.now lists bounds) (sym c.deref_mut.ensures.value)
     (subst (λ (plains : List (List ℕ)). InputsCarry g.row.N ctx s script inside.plan.items inside.ciphers.items plains lists bounds) (sym c.deref-2.ensures.value) before)) in
     subst (λ (places : List CipherValue). Carries g.row.N ctx s (cipher_at places ran.result) (value_of script lists) (slice_index (exact_bounds script bounds) script.output)) (sym written)
-    (ran.ensures.carries s lists bounds moved record {
+    (let none = ap length c.requires.keyless in
+    ran.ensures.carries s lists bounds moved record {
       ternary = premise.ternary;
       quiet = premise.quiet;
-      keys = λ i key below. absurd (none_needed script i c.requires.linear below);
+      keys = λ i key below. absurd (omega (arith, none, below));
     })

@@ -24,8 +24,9 @@ use Rattle.file_model.specs.declared.head.Wanted.{Wanted}
 use Rattle.file_model.specs.declared.head.Wanted.TheVariants as wanted
 use Rattle.file_model.proofs.Laws.{scanned-complete}
 use Rattle.command_words.specs.Line.{word_at}
-use Rattle.command_words.specs.declared.status.Status.TheVariants.{ShortSeed}
-use Rattle.command_model.specs.Plan.{operand, taken, content_or_fault, taken_seed, seed_operand, taken_values, values_or_fault, values_operand, seed_word, IsFreshCipher}
+use Rattle.command_words.specs.declared.status.Status.TheVariants.{BadValues, ShortSeed}
+use Rattle.command_model.specs.Reading.{own_file, seed_file, values_file, said_by, taken, or_refused, status_of}
+use Rattle.command_model.specs.Plan.{seed_word, IsFreshCipher}
 use Rattle.command_model.specs.Plain.{Owner, Item, text, secret_of, public_key_of, sealed, State, Stands, IsItem, BelongsTo, IsSecretOf, IsPublicKeyFor, IsSealed, drawn_owner, drawn, published, sealed_if_read, sealed_under}
 use Rattle.key_commands.proofs.FreshBounds.{fresh_bound_fits}
 
@@ -38,16 +39,16 @@ pub record OperandContent (Is : FileContent → Type 0) (content : FileContent) 
 
 -- a content that was taken of a file which stands for something of its kind
 pub content_at : (files : Files) (name : List ℕ) (wanted : Wanted) (word : ℕ) (content : FileContent) (Is : FileContent → Type 0)
-    → ((held : FileContent) → Is held → wants wanted held.kind ≡ true) → taken wanted word (file files name) ≡ Ok content
+    → ((held : FileContent) → Is held → wants wanted held.kind ≡ true) → taken (own_file wanted) word (file files name) ≡ Ok content
     → (bytes : List ℕ) × ((file files name ≡ Some bytes) × ((held : FileContent) × (IsFile bytes held × Is held))) → OperandContent Is content
 content_at files name wanted word content Is is_wanted is (bytes, (at, (held, (is_file, held_is)))) =
-    let scanned_is : taken wanted word (Some bytes) ≡ Ok held = ap (content_or_fault word) (scanned-complete wanted bytes held is_file (is_wanted held held_is)) in
-    let same : held ≡ content = let both : Ok held ≡ Ok content = sym scanned_is ∙ ap (taken wanted word) (sym at) ∙ is in cc in
+    let scanned_is : said_by (own_file wanted) word bytes ≡ Ok held = ap (or_refused (status_of word)) (scanned-complete wanted bytes held is_file (is_wanted held held_is)) in
+    let same : held ≡ content = let both : Ok held ≡ Ok content = sym scanned_is ∙ ap (taken (own_file wanted) word) (sym at) ∙ is in cc in
     record { bytes = bytes; is_file = subst (IsFile bytes) same is_file; is = subst Is same held_is }
 
 -- an operand that was taken, whose file stands for something of its kind
 pub operand_content : (words : List (List ℕ)) (files : Files) (wanted : Wanted) (word : ℕ) (content : FileContent) (Is : FileContent → Type 0)
-    → ((held : FileContent) → Is held → wants wanted held.kind ≡ true) → operand words files wanted word ≡ Ok content
+    → ((held : FileContent) → Is held → wants wanted held.kind ≡ true) → taken (own_file wanted) word (file files (word_at words word)) ≡ Ok content
     → (bytes : List ℕ) × ((file files (word_at words word) ≡ Some bytes) × ((held : FileContent) × (IsFile bytes held × Is held))) → OperandContent Is content
 operand_content words files wanted word content Is is_wanted is told = content_at files (word_at words word) wanted word content Is is_wanted is told
 
@@ -71,7 +72,7 @@ text_at files state name bytes stands is = let held = stands.each name (text byt
 
 -- ---- a drawn secret
 -- the seed that was taken from a text has the stream of the text
-taken_stream : (word : ℕ) (bytes seed : List ℕ) → taken_seed word (Some bytes) ≡ Ok seed → seed_stream seed ≡ seed_stream bytes
+taken_stream : (word : ℕ) (bytes seed : List ℕ) → said_by seed_file word bytes ≡ Ok seed → seed_stream seed ≡ seed_stream bytes
 unfolding seed_stream
 taken_stream word bytes seed is = of_test (nat_lt (length bytes) 32) is
   where
@@ -107,11 +108,11 @@ drawn_file_is_secret set seed = record {
 
 -- the file that `secret` writes stands for what the plain machine draws
 pub item_drawn : (words : List (List ℕ)) (files : Files) (state : State) (set : SetName) (seed bytes : List ℕ) (item : Item) → Stands files state
-    → seed_operand words files 2 ≡ Ok seed → bytes ≡ file_text (drawn_secret_file set (seed_word seed)) → drawn set (state (word_at words 2)) ≡ Some item → IsItem item bytes
+    → taken seed_file 2 (file files (word_at words 2)) ≡ Ok seed → bytes ≡ file_text (drawn_secret_file set (seed_word seed)) → drawn set (state (word_at words 2)) ≡ Some item → IsItem item bytes
 item_drawn words files state set seed bytes item stands seed_is made is =
     let d = drawn_is set (state (word_at words 2)) item is in
     let source = text_at files state (word_at words 2) d.seed stands d.source_is in
-    let stream : seed_stream seed ≡ seed_stream d.seed = taken_stream 2 d.seed seed (ap (taken_seed 2) (sym source) ∙ seed_is) in
+    let stream : seed_stream seed ≡ seed_stream d.seed = taken_stream 2 d.seed seed (ap (taken seed_file 2) (sym source) ∙ seed_is) in
     let same : bytes ≡ file_text (drawn_secret_file set (seed_word d.seed)) =
     made ∙ ap (λ (s : Stream). file_text (drawn_secret_file set (λ place. stream_word s place))) stream in
     subst (λ (i : Item). IsItem i bytes) (sym d.item_is)
@@ -147,7 +148,7 @@ drawn_file_is_public_key owner secret seed of_owner =
 
 -- the file that `public` writes stands for what the plain machine publishes
 pub item_published : (words : List (List ℕ)) (files : Files) (state : State) (secret : FileContent) (seed bytes : List ℕ) (item : Item) → Stands files state
-    → operand words files wanted.Secret 1 ≡ Ok secret → bytes ≡ file_text (drawn_public_file secret (seed_word seed)) → published (state (word_at words 1)) ≡ Some item → IsItem item bytes
+    → taken (own_file wanted.Secret) 1 (file files (word_at words 1)) ≡ Ok secret → bytes ≡ file_text (drawn_public_file secret (seed_word seed)) → published (state (word_at words 1)) ≡ Some item → IsItem item bytes
 item_published words files state secret seed bytes item stands secret_is made is =
     let p = published_is (state (word_at words 1)) item is in
     let source = operand_content words files wanted.Secret 1 secret (IsSecretOf p.owner) (λ held s. belongs_wanted wanted.Secret p.owner Secret held refl s.belongs) secret_is
@@ -206,16 +207,16 @@ fresh_cipher_is_sealed owner public listed seed bytes fresh of_owner =
     }
 
 -- the values that were read in a text are those that the plain machine reads
-same_values : (word : ℕ) (bytes listed read : List ℕ) (public_set owner_set : SetName) → public_set ≡ owner_set → taken_values public_set word (Some bytes) ≡ Ok listed
+same_values : (word : ℕ) (bytes listed read : List ℕ) (public_set owner_set : SetName) → public_set ≡ owner_set → said_by (values_file public_set) word bytes ≡ Ok listed
     → values_of bytes (degree_of owner_set) (plain_of owner_set) ≡ Ok read → listed ≡ read
 same_values word bytes listed read public_set owner_set same taken_is read_is =
     let both : Ok listed ≡ Ok read = sym taken_is
-    ∙ ap (λ (set : SetName). values_or_fault word (values_of bytes (degree_of set) (plain_of set))) same ∙ ap (values_or_fault word) read_is in
+    ∙ ap (λ (set : SetName). or_refused (BadValues word) (values_of bytes (degree_of set) (plain_of set))) same ∙ ap (or_refused (BadValues word)) read_is in
     cc
 
 -- the file that `encrypt` writes stands for what the plain machine seals
 pub item_sealed : (words : List (List ℕ)) (files : Files) (state : State) (public : FileContent) (listed seed bytes : List ℕ) (item : Item) → Stands files state
-    → operand words files wanted.Public 1 ≡ Ok public → values_operand public.set words files 3 ≡ Ok listed → IsFreshCipher public listed seed bytes
+    → taken (own_file wanted.Public) 1 (file files (word_at words 1)) ≡ Ok public → taken (values_file public.set) 3 (file files (word_at words 3)) ≡ Ok listed → IsFreshCipher public listed seed bytes
     → sealed_under (state (word_at words 1)) (state (word_at words 3)) ≡ Some item → IsItem item bytes
 item_sealed words files state public listed seed bytes item stands public_is listed_is fresh is =
     let s = sealed_is (state (word_at words 1)) (state (word_at words 3)) item is in
@@ -223,7 +224,7 @@ item_sealed words files state public listed seed bytes item stands public_is lis
     (stands.each (word_at words 1) (public_key_of s.owner) s.key_is) in
     let source = text_at files state (word_at words 3) s.bytes stands s.source_is in
     let values : listed ≡ s.listed = same_values 3 s.bytes listed s.listed public.set s.owner.set key.is.belongs.of_set
-    (ap (taken_values public.set 3) (sym source) ∙ listed_is) s.listed_is in
+    (ap (taken (values_file public.set) 3) (sym source) ∙ listed_is) s.listed_is in
     subst (λ (i : Item). IsItem i bytes) (sym s.item_is) (
       fresh_content public listed seed bytes fresh,
       (
