@@ -152,7 +152,7 @@ struct Multiplied {
 }
 
 /// Runs such a script on a store of two ciphers of a set.
-fn multiplied(
+fn run_product(
     alloc: Global,
     set: &str,
     script: &str,
@@ -240,7 +240,7 @@ fn products_are_written_as_elsewhere(rt: HostRuntime) -> Result<(), Fail> {
         ),
     ];
     for (set, script, texts, length, bound, digits, values) in rows {
-        let o = multiplied(rt.alloc(), set, script, texts)?;
+        let o = run_product(rt.alloc(), set, script, texts)?;
         assert_eq!(rt; o.status, Status::Done, "{set} {script}");
         assert_eq!(rt; o.written.len(), length);
         assert_eq!(rt; o.written.get(32..40), Some(bound.as_slice()));

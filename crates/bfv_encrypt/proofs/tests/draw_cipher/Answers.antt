@@ -18,4 +18,4 @@ encrypt-requires g c =
     let cipher_level : c.in_ok-cipher.cipher.level ≡ ctx.level = ap (λ (x : CipherValue). x.level) c.in_ok-cipher.ensures.value in
     let scratch : length c.in_ok-scratch.scratch ≡ 8 * (ctx.level + length (aux_of ctx.set) + 2) =
     ap length c.in_ok-scratch.ensures ∙ length-replicate c.scratch_rows.result (replicate n 0) ∙ c.scratch_rows.ensures.value in
-    (search rules, (search rules, (omega (arith, degree), (search rules, (search rules, (level, (key, (plain, (cipher_set, (cipher_level, scratch))))))))))
+    (search rules, (search rules, (omega (arith, degree), (search rules, (search rules, (level, (key, (plain, (record { set = cipher_set; level = cipher_level }, scratch)))))))))

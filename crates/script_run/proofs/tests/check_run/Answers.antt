@@ -72,21 +72,18 @@ check_result-requires g c =
         (
           search rules,
           (
-            search rules,
+            sym c.set-set.ensures.value ∙ sym set_is,
             (
-              sym c.set-set.ensures.value ∙ sym set_is,
+              ap (λ (x : ContextValue). x.level) c.in_ok-ctx.ensures ∙ ap (λ (s : SetName). length (data_of s)) (sym set_is),
               (
-                ap (λ (x : ContextValue). x.level) c.in_ok-ctx.ensures ∙ ap (λ (s : SetName). length (data_of s)) (sym set_is),
+                still_made script _ _ (still_made script _ _ (still_made script _ _ c.in_ok-space.ensures.made one_filled) two_filled) filled,
                 (
-                  still_made script _ _ (still_made script _ _ (still_made script _ _ c.in_ok-space.ensures.made one_filled) two_filled) filled,
+                  c.check_keyless.ensures,
                   (
-                    c.check_keyless.ensures,
+                    c.fill_plain_input.ensures.of_context,
                     (
-                      c.fill_plain_input.ensures.of_context,
-                      (
-                        λ r below. c.fill_plain_input.ensures.parts r (subst (λ (count : ℕ). r < count) (sym inputs) below),
-                        λ p below. subst (λ (j : ℕ). IsReduced g.row.N (plain_of ctx.set) (slice_index_or c.fill_plain_input.new.space.plains j [])) (omega (arith, below, one)) c.fill_plain_input.ensures.reduced,
-                      ),
+                      λ r below. c.fill_plain_input.ensures.parts r (subst (λ (count : ℕ). r < count) (sym inputs) below),
+                      λ p below. subst (λ (j : ℕ). IsReduced g.row.N (plain_of ctx.set) (slice_index_or c.fill_plain_input.new.space.plains j [])) (omega (arith, below, one)) c.fill_plain_input.ensures.reduced,
                     ),
                   ),
                 ),
