@@ -1,8 +1,9 @@
 #!/usr/bin/env bash
-# Times whole commands of the program `bfv` on real files at `s8192` and `s16384`: `secret`, `public`, `encrypt`, `run` (the
-# weighted sum of two ciphers as in README) and `decrypt`. Beside each stands the sum of what must be done at least: the
-# operations of a fast C++ program, and SHA-256 over the files of keys and ciphers that the command reads and writes, by the
-# kit's `sha2` alone. Then that SHA-256 is compared with the one of `openssl speed`, where there is an `openssl`.
+# Times whole commands of the program `bfv` on real files at `s8192` and `s16384`: `secret`, `public`, `relin`, `turn`,
+# `encrypt`, `run` (the weighted sum of two ciphers as in README) and `decrypt`. Beside each stands the sum of what must be
+# done at least: the operations of a fast C++ program, and SHA-256 over the files of keys and ciphers that the command reads
+# and writes, by the kit's `sha2` alone. Then that SHA-256 is compared with the one of `openssl speed`, where there is an
+# `openssl`.
 # Usage: bench/program/run.sh YARDSTICK [ROUNDS [PROGRAM]]. It needs `rt`, python3 and a built `bfv`, which is that of this
 # repository or else PROGRAM. YARDSTICK is a program that answers `YARDSTICK bench SET SECONDS OPERATION..` with a last line
 # of JSON, in which "least" has the least microseconds of a call of each operation.
@@ -11,8 +12,9 @@
 # SHA-256 is the least wall time of many calls in a round; `openssl` takes its own processor time, in hundredths of a second.
 # Wall times grow where others use the processors, and processor times less so: then the ratios come out too small.
 # Files lie in a temporary folder, in that of TMPDIR where it is set; waiting for a disk isn't processor time.
-# In the sum, `public` is two transforms there and one back for each modulus, and `mulk` counts as one more `add`; drawing
-# from a seed and reading and printing a text of values aren't in it.
+# In the sum, `public` is two transforms there and one back for each modulus; `relin` and `turn` are one there for each row of
+# the first part of every digit, one of the secret for each of these moduli, and one of the source for each data modulus; and
+# `mulk` counts as one more `add`. Drawing from a seed and reading and printing a text of values aren't in it.
 . "$(dirname "$0")/../common.sh"
 
 yardstick=$(realpath -e "${1:?give the path of the program to compare with}")
@@ -71,7 +73,7 @@ make_inputs() {
     local number
     mkdir "$work/$1"
     cd "$work/$1"
-    for number in 1 2 3 4; do printf '%032d' "$number" > "seed$number"; done
+    for number in 1 2 3 4 5 6; do printf '%032d' "$number" > "seed$number"; done
     printf '%s\n' "set $1" 'cipher a' 'cipher b' 'plain w' 'x = mulp a w' 'y = mulk b 3' 's = add x y' 'output s' > script
     awk -v degree="$2" 'BEGIN {
         for (i = 0; i < degree; i++) {
@@ -100,11 +102,13 @@ timed() {
 time_commands() {
     timed "secret_$1" secret "$1" seed1 sec
     timed "public_$1" public sec seed2 pub
+    timed "relin_$1" relin sec seed5 rel
+    timed "turn_$1" turn sec 3 seed6 tur
     timed "encrypt_$1" encrypt pub seed3 a.txt a
     timed "run_$1" run script sum a=a b=b w=w.txt
     timed "decrypt_$1" decrypt sec sum out.txt
     tr ' ' '\n' < out.txt | cmp - expected.txt >&2
-    "$built" "$(size sec)" "$(size pub)"
+    "$built" "$(size sec)" "$(size pub)" "$(size rel)"
 }
 
 # time_others SET: a line for each operation, and for SHA-256 of `openssl` over the size of a public key and of a cipher.
@@ -135,6 +139,8 @@ print_row() {
 print_rows() {
     print_row secret "$1" "sec"
     print_row public "$1" "sec pub" $((2 * $2)) ntt_forward "$2" ntt_inverse
+    print_row relin "$1" "sec rel" $(($2 * $2 + 3 * $2 + 1)) ntt_forward
+    print_row turn "$1" "sec tur" $(($2 * $2 + 3 * $2 + 1)) ntt_forward
     print_row encrypt "$1" "pub a" 1 encode 1 encrypt
     print_row run "$1" "a b sum" 1 encode 1 mul_plain 2 add
     print_row decrypt "$1" "sec sum" 1 decrypt 1 decode

@@ -17,7 +17,9 @@ use command_words::{Form, Status, form_of, put_line};
 use key_commands::decrypt::decrypt;
 use key_commands::encrypt::encrypt;
 use key_commands::public::public;
+use key_commands::relin::relin;
 use key_commands::secret::secret;
+use key_commands::turn::turn;
 use outer_io::{Sink, SinkFault, Store};
 use std::alloc::Global;
 use text_commands::check::check;
@@ -103,12 +105,16 @@ fn run<S: Store>(
             Ok(line) => Ok(Some(line)),
             Err(status) => Err(status),
         },
-        Form::Secret | Form::Public | Form::Encrypt | Form::Run | Form::Decrypt => {
-            match write_out(alloc, form, words, store) {
-                Ok(()) => Ok(None),
-                Err(status) => Err(status),
-            }
-        }
+        Form::Secret
+        | Form::Public
+        | Form::Relin
+        | Form::Turn
+        | Form::Encrypt
+        | Form::Run
+        | Form::Decrypt => match write_out(alloc, form, words, store) {
+            Ok(()) => Ok(None),
+            Err(status) => Err(status),
+        },
         Form::Batch => unreachable!(),
     }
 }
@@ -128,6 +134,8 @@ fn write_out<S: Store>(
     match form {
         Form::Secret => secret(alloc, words, store),
         Form::Public => public(alloc, words, store),
+        Form::Relin => relin(alloc, words, store),
+        Form::Turn => turn(alloc, words, store),
         Form::Encrypt => encrypt(alloc, words, store),
         Form::Run => run_script(alloc, words, store),
         Form::Decrypt => decrypt(alloc, words, store),

@@ -24,7 +24,8 @@ use Rattle.bfv_model.specs.Holds.{listed_word, listed_words, secret_polynomial, 
 use Rattle.bfv_model.proofs.Sets.{degree_pos, data_count_pos}
 use Rattle.file_model.proofs.Words.{word_bytes-append, word_bytes-take-add}
 use Rattle.bfv_params.specs.Rows.{ReducedInTurn}
-use Rattle.cipher_files.specs.Contents.{IsFront, digit_words, key_words, part_words, secret_words}
+use Rattle.file_model.specs.KeyWords.{digit_words, key_words}
+use Rattle.cipher_files.specs.Contents.{IsFront, part_words, secret_words}
 use Rattle.file_model.specs.Heads.{HeadKeepsRules, content_with, wants}
 use Rattle.file_model.specs.declared.head.Head.{Head}
 use Rattle.file_model.specs.declared.head.Wanted.TheVariants.{Key}

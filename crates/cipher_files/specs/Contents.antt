@@ -1,7 +1,7 @@
 -- The words of files that are written.
-use Rattle.std.specs.Prelude.{◌≡◌, ℕ, ◌+◌, ◌*◌, ◌/◌, ◌%◌, ℤ, List, ◌++◌, length}
+use Rattle.std.specs.Prelude.{◌≡◌, ℕ, ℤ, List, ◌++◌, length}
 use Rattle.set_table.specs.declared.SetName.{SetName}
-use Rattle.set_table.specs.Sets.{degree_of, data_of}
+use Rattle.set_table.specs.Sets.{data_of}
 use Rattle.ring_law.specs.Sums.{values_below}
 use Rattle.ring_law.specs.Residues.{residue}
 use Rattle.ring_law.specs.Rows.{listed_polynomial}
@@ -18,15 +18,6 @@ secret_words n small = values_below n (λ k. residue 3 (listed_polynomial small 
 -- the words of the first parts of listed rows, each part with a row for each data modulus
 abbrev pub part_words : ℕ → SetName → ℕ → List (List ℕ) → List ℕ
 part_words n set parts rows = listed_words n (length (data_of set)) parts (listed_word (length (data_of set)) rows)
-
--- the words of the first digits of a switching key, digit after digit and in each part after part; they are given by digit,
--- part, row and place
-abbrev pub digit_words : SetName → ℕ → (ℕ → ℕ → ℕ → ℕ → ℕ) → List ℕ
-digit_words set digits word = listed_words (degree_of set) (length (data_of set) + 1) (digits * 2) (λ part. word (part / 2) (part % 2))
-
--- the words of a whole switching key
-abbrev pub key_words : SetName → (ℕ → ℕ → ℕ → ℕ → ℕ) → List ℕ
-key_words set word = digit_words set (length (data_of set)) word
 
 -- the bytes are those of a file with this head, up to and with these words
 abbrev pub IsFront : Head → List ℕ → List ℕ → Type 0

@@ -5,7 +5,8 @@ use Rattle.sha2.specs.Hashers.{Holds256}
 use Rattle.outer_io.specs.Store.{StoreState}
 use Rattle.set_table.specs.Sets.{degree_of, data_of, key_of}
 use Rattle.file_model.specs.Heads.{HeadKeepsRules, wants}
-use Rattle.cipher_files.specs.Contents.{digit_words, IsFront}
+use Rattle.file_model.specs.KeyWords.{digit_words}
+use Rattle.cipher_files.specs.Contents.{IsFront}
 use Rattle.file_model.specs.declared.head.Head.{Head}
 use Rattle.file_model.specs.declared.head.Wanted.TheVariants.{Key}
 use Rattle.cipher_files.specs.declared.key_writer.KeyWriter.{KeyWriter}

@@ -7,7 +7,7 @@ ghost use Rattle.file_model.specs.FileText.{KeepsRules, file_text};
 ghost use Rattle.bfv_model.specs.Holds.{listed_word};
 ghost use Rattle.file_model.specs.declared.head.Wanted.TheVariants.{Key};
 ghost use Rattle.file_model.specs.Heads.{HeadKeepsRules, content_with, wants};
-ghost use Rattle.cipher_files.specs.Contents.{key_words};
+ghost use Rattle.file_model.specs.KeyWords.{key_words};
 ghost use Rattle.cipher_files.specs.Writing.{head_of, digits_put, IsWriting, HasWritten};
 
 use crate::Head;

@@ -6,6 +6,7 @@ use Rattle.std.specs.Str.{bytes_eq}
 use Rattle.outer_io.specs.Store.{Files, file}
 use Rattle.set_table.specs.declared.SetName.{SetName}
 use Rattle.set_table.specs.declared.KeyKind.{KeyKind}
+use Rattle.set_table.specs.declared.KeyKind.TheVariants.{Relin, Turn}
 use Rattle.set_table.specs.Sets.{set_named, number_of, degree_of, plain_of, data_of, key_of}
 use Rattle.ring_law.specs.Sums.{values_below}
 use Rattle.bound_num.specs.Bound.{bound_value}
@@ -27,12 +28,13 @@ use Rattle.script_text.specs.Scripts.{Script, cipher_inputs}
 use Rattle.script_text.specs.Grammar.{script_of}
 use Rattle.script_text.specs.Value.{value_of}
 use Rattle.script_text.specs.Values.{printed_values}
+use Rattle.command_words.specs.Step.{step_named}
 use Rattle.command_words.specs.Form.{form_of, binding_file}
 use Rattle.command_words.specs.Line.{word_at}
 use Rattle.command_words.specs.declared.form.Form.{Form}
 use Rattle.command_words.specs.declared.form.Form.TheVariants as form
 use Rattle.command_model.specs.Bindings.{bound_names, place_bound}
-use Rattle.command_model.specs.Plan.{seed_word, out_name}
+use Rattle.command_model.specs.Plan.{seed_word, out_name, element_of}
 
 -- whose secret: the set, the key id, and the n coefficients as words, with 2 for -1
 pub record Owner : Type 0 where
@@ -76,6 +78,11 @@ drawn set _ = None
 abbrev pub published : Option Item → Option Item
 published (Some (secret_of owner)) = Some (public_key_of owner)
 published _ = None
+
+-- and it has switching keys of each kind, with an element that its degree gives
+abbrev pub switched : KeyKind → (ℕ → ℕ) → Option Item → Option Item
+switched kind element (Some (secret_of owner)) = Some (switch_key_of owner kind (element (degree_of owner.set)))
+switched kind element _ = None
 
 abbrev pub sealed_if_read : Owner → Result (List ℕ) ValuePlace → Option Item
 sealed_if_read owner (Ok values) = Some (sealed owner values)
@@ -132,6 +139,8 @@ ran words state _ = None
 abbrev pub item_made : Form → List (List ℕ) → State → Option Item
 item_made form.Secret words state = option_and_then (λ set. drawn set (state (word_at words 2))) (set_named (word_at words 1))
 item_made form.Public words state = published (state (word_at words 1))
+item_made form.Relin words state = switched Relin (λ n. 0) (state (word_at words 1))
+item_made form.Turn words state = option_and_then (λ step. switched Turn (element_of step) (state (word_at words 1))) (step_named (word_at words 2))
 item_made form.Encrypt words state = sealed_under (state (word_at words 1)) (state (word_at words 3))
 item_made form.Run words state = ran words state (state (word_at words 1))
 item_made form.Decrypt words state = opened (state (word_at words 1)) (state (word_at words 2))

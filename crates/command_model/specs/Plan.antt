@@ -1,13 +1,14 @@
 -- What the words of a command and the files lead to: the first refusal, or the file OUT as far as it is determined.
 use Rattle.std.specs.Option.{option_map, option_or}
 use Rattle.std.specs.Str.{bytes_eq}
-use Rattle.std.specs.Prelude.{◌≡◌, ℕ, ◌+◌, ◌<◌, nat_lt, ◌&&◌, ◌==◌, if◌then◌else◌, List, [], ◌∷◌, length, map, position, slice_get, slice_index, unwrap_or, All, Option, Some, None, is_none, Result}
+use Rattle.std.specs.Prelude.{◌≡◌, ℕ, ◌+◌, ◌-◌, ◌*◌, ◌/◌, ◌%◌, ◌^◌, ◌<◌, nat_lt, ◌&&◌, ◌==◌, if◌then◌else◌, List, [], ◌∷◌, length, map, position, slice_get, slice_index, unwrap_or, All, Option, Some, None, is_none, Result}
 use Rattle.outer_io.specs.Store.{Files}
 use Rattle.set_table.specs.declared.SetName.{SetName}
+use Rattle.set_table.specs.declared.KeyKind.TheVariants.{Relin, Turn}
 use Rattle.set_table.specs.Sets.{set_named, number_of, degree_of, plain_of, special_of}
 use Rattle.file_model.specs.declared.file_kind.FileKind.TheVariants as kind
 use Rattle.file_model.specs.FileText.{FileContent, IsFile, file_text}
-use Rattle.file_model.specs.DrawnFiles.{drawn_secret_file, drawn_public_file, drawn_cipher_file}
+use Rattle.file_model.specs.DrawnFiles.{drawn_secret_file, drawn_public_file, drawn_switch_file, drawn_cipher_file}
 use Rattle.file_model.specs.declared.head.Wanted.TheVariants as wanted
 use Rattle.bfv_model.specs.Drawn.{stream_word, seed_stream, greatest_error}
 use Rattle.bfv_model.specs.NoiseBounds.{fresh_bound}
@@ -23,12 +24,15 @@ use Rattle.script_text.specs.Values.{printed_values}
 use Rattle.noise_check.specs.declared.verdict.Verdict.{Verdict}
 use Rattle.noise_check.specs.declared.verdict.Verdict.TheVariants as verdict
 use Rattle.noise_check.specs.Verdicts.{fresh_bounds, verdict_of}
+use Rattle.command_words.specs.Step.{step_named}
 use Rattle.command_words.specs.Form.{form_of, out_word, binding_name, binding_file}
 use Rattle.command_words.specs.Line.{word_at, accepted_text}
 use Rattle.command_words.specs.declared.form.Form.{Form}
 use Rattle.command_words.specs.declared.form.Form.TheVariants as form
+use Rattle.command_words.specs.declared.step.Step.{Step}
+use Rattle.command_words.specs.declared.step.Step.TheVariants.{Left, Swap}
 use Rattle.command_words.specs.declared.status.Status.{Status}
-use Rattle.command_words.specs.declared.status.Status.TheVariants.{Usage, SetMismatch, KeyMismatch, BadScript, TooNoisy, Binding, NoSpecial, PartsMismatch}
+use Rattle.command_words.specs.declared.status.Status.TheVariants.{Usage, SetMismatch, KeyMismatch, BadScript, TooNoisy, Binding, NoSpecial, BadStep, PartsMismatch}
 use Rattle.command_model.specs.Bindings.{bindings_of, bound_names, input_named, kind_at, fault_of_bindings, Operand, bound_cipher, bound_values, first_key_id, Run, ciphers_of, plains_of}
 use Rattle.command_model.specs.Reading.{Output, file_with, sealing, running, values, accepted, commands, own_file, seed_file, values_file, script_file, batch_file, Reading, read, read_word, refused, done, unless, outcome}
 
@@ -56,15 +60,15 @@ unmatched word content other = option_or (other_set other.set word content) (oth
 abbrev pub seed_word : List ℕ → ℕ → ℕ
 seed_word seed place = stream_word (seed_stream seed) place
 
--- a set that is named; words that have a form name one where a set is wanted
-abbrev pub for_set : Option SetName → (SetName → Reading) → Reading
-for_set None rest = refused Usage
-for_set (Some set) rest = rest set
+-- what a word names, such as a set; words that have a form name one where it is wanted
+abbrev pub for_named : {A : Type 0} → Option A → (A → Reading) → Reading
+for_named None rest = refused Usage
+for_named (Some named) rest = rest named
 
 -- `secret SET SEEDFILE OUT`
 abbrev pub reading_of_secret : List (List ℕ) → Reading
 reading_of_secret words =
-    for_set (set_named (word_at words 1)) (λ set. read_word words 2 seed_file (λ seed.
+    for_named (set_named (word_at words 1)) (λ set. read_word words 2 seed_file (λ seed.
     done (file_with (drawn_secret_file set (seed_word seed)))))
 
 -- `public SEC SEEDFILE OUT`: the secret is read before the seed
@@ -72,6 +76,36 @@ abbrev pub reading_of_public : List (List ℕ) → Reading
 reading_of_public words =
     read_word words 1 (own_file wanted.Secret) (λ secret. read_word words 2 seed_file (λ seed.
     done (file_with (drawn_public_file secret (seed_word seed)))))
+
+-- a set without a special modulus has no switching keys
+abbrev pub without_special : SetName → Option Status
+without_special set = if is_none (special_of set) then Some (NoSpecial set) else None
+
+-- `relin SEC SEEDFILE OUT`
+abbrev pub reading_of_relin : List (List ℕ) → Reading
+reading_of_relin words =
+    read_word words 1 (own_file wanted.Secret) (λ secret. unless (without_special secret.set) (read_word words 2 seed_file (λ seed.
+    done (file_with (drawn_switch_file Relin 0 secret (seed_word seed))))))
+
+-- the Galois element of a step at degree n: a power of 3 turns both halves of the slots left, and 2n - 1 exchanges them
+abbrev pub element_of : Step → ℕ → ℕ
+element_of (Left places) n = 3 ^ places % (2 * n)
+element_of Swap n = 2 * n - 1
+
+-- a half, which has n / 2 slots, is turned by fewer places
+abbrev pub too_far : Step → ℕ → Option Status
+too_far (Left places) n = if nat_lt places (n / 2) then None else Some (BadStep places (n / 2))
+too_far Swap n = None
+
+-- the key of a turn by a step, of a secret that was read: it is asked for the special modulus before the step
+abbrev pub turned_by : List (List ℕ) → Step → FileContent → Reading
+turned_by words step secret =
+    unless (without_special secret.set) (unless (too_far step (degree_of secret.set)) (read_word words 3 seed_file (λ seed.
+    done (file_with (drawn_switch_file Turn (element_of step (degree_of secret.set)) secret (seed_word seed))))))
+
+-- `turn SEC STEP SEEDFILE OUT`
+abbrev pub reading_of_turn : List (List ℕ) → Reading
+reading_of_turn words = for_named (step_named (word_at words 2)) (λ step. read_word words 1 (own_file wanted.Secret) (turned_by words step))
 
 -- `encrypt PUB SEEDFILE VALUES OUT`: the public key is read before the seed, and the seed before the values
 abbrev pub reading_of_encrypt : List (List ℕ) → Reading
@@ -189,6 +223,8 @@ abbrev pub reading_of_form : Option Form → List (List ℕ) → Reading
 reading_of_form None words = refused Usage
 reading_of_form (Some form.Secret) words = reading_of_secret words
 reading_of_form (Some form.Public) words = reading_of_public words
+reading_of_form (Some form.Relin) words = reading_of_relin words
+reading_of_form (Some form.Turn) words = reading_of_turn words
 reading_of_form (Some form.Encrypt) words = reading_of_encrypt words
 reading_of_form (Some form.Run) words = reading_of_run words
 reading_of_form (Some form.Decrypt) words = reading_of_decrypt words

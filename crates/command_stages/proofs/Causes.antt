@@ -1,12 +1,12 @@
 -- What an answer owes to.
-use Rattle.std.proofs.Common.{◌≡◌, ◌≢◌, inl, inr, ℕ, ◌≤◌, sym, subst, refl, ◌∙◌, le_refl, arith}
-use Rattle.std.specs.Prelude.{true, Some, None, Err}
+use Rattle.std.proofs.Common.{◌≡◌, inl, inr, ℕ, ◌≤◌, sym, subst, refl, ◌∙◌, le_refl, arith}
+use Rattle.std.specs.Prelude.{true, Some, Err}
 use Rattle.outer_io.specs.Store.{StoreState, OnlyReads, OnlyWrites, Rose}
 use Rattle.outer_io.specs.declared.faults.StoreFault.{StoreFault}
 use Rattle.outer_io.specs.declared.faults.StoreFault.TheVariants as store
 use Rattle.command_words.specs.Status.{parts_of}
 use Rattle.command_words.specs.declared.status.Status.{Status}
-use Rattle.command_words.specs.declared.status.Status.TheVariants.{Done, Usage, Memory, ReadFault, WriteFault, MissingFile}
+use Rattle.command_words.specs.declared.status.Status.TheVariants.{Memory}
 use Rattle.command_model.specs.Answers.{IsFault}
 use Rattle.command_model.specs.Commanded.{Caused}
 use Rattle.command_stages.specs.Causes.{OwesNoCall, OwesNothing}

@@ -1,6 +1,6 @@
 -- Files of the scheme that were scanned, or refused.
-use Rattle.std.proofs.Common.{◌≡◌, ◌≢◌, ◌⊎◌, inl, inr, ⊎_elim, ℕ, List, length, ap, ◌∙◌, refl, sym, subst}
-use Rattle.std.specs.Prelude.{true, replicate, Option, Some, None, Result, Ok, Err}
+use Rattle.std.proofs.Common.{◌≡◌, ◌≢◌, ◌⊎◌, inl, inr, ⊎_elim, ℕ, List, ap, ◌∙◌, refl, sym, subst}
+use Rattle.std.specs.Prelude.{true, replicate, Option, Some, None, Ok, Err}
 use Rattle.std.specs.Option.{ForSome}
 use Rattle.std.proofs.lemmas.List.{length-replicate}
 use Rattle.outer_io.specs.Store.{Files, StoreState, IsBytes, file, contents}
@@ -14,7 +14,6 @@ use Rattle.file_model.specs.declared.head.Wanted.{Wanted}
 use Rattle.file_model.specs.declared.faults.FileFault.{FileFault}
 use Rattle.file_model.specs.declared.faults.FileFault.TheVariants as faults
 use Rattle.file_model.proofs.Laws.{scanned-sound}
-use Rattle.command_words.specs.declared.status.Status.{Status}
 use Rattle.command_words.specs.declared.status.Status.TheVariants.{WriteFault, NotOurs, Version, WrongKind, Damaged}
 use Rattle.command_model.specs.Reading.{own_file, or_refused, status_of, taken}
 use Rattle.command_model.specs.Answers.{IsFault}

@@ -1,6 +1,6 @@
 -- Files that were read, or not.
 use Rattle.std.proofs.Common.{◌≡◌, ◌⊎◌, inl, inr, ℕ, ◌≤◌, List, take, refl, sym, ◌∙◌, ap, subst}
-use Rattle.std.specs.Prelude.{true, Option, Some, None, Result, Ok, Err, IfOk, IfErr}
+use Rattle.std.specs.Prelude.{true, Option, Some, Result, Ok, Err, IfOk, IfErr}
 use Rattle.std.specs.Option.{ForSome}
 use Rattle.outer_io.specs.Store.{Files, StoreState, OnlyReads, ReadCause, ReadTold, file, contents}
 use Rattle.outer_io.specs.declared.faults.StoreFault.{StoreFault}
@@ -12,10 +12,9 @@ use Rattle.script_text.specs.declared.faults.ValuePlace.{ValuePlace}
 use Rattle.script_text.specs.declared.faults.ScriptPlace.{ScriptPlace}
 use Rattle.command_words.specs.Status.{parts_of}
 use Rattle.command_words.specs.declared.status.Status.{Status}
-use Rattle.command_words.specs.declared.status.Status.TheVariants.{Memory, MissingFile, ReadFault, WriteFault, BadValues, BadScript}
+use Rattle.command_words.specs.declared.status.Status.TheVariants.{Memory, MissingFile, BadValues, BadScript}
 use Rattle.command_model.specs.Reading.{Sort, own_file, seed_file, values_file, script_file, batch_file, Said, said_by, taken, status_of, MayBeRefused}
-use Rattle.command_model.specs.Commanded.{Caused}
-use Rattle.command_stages.specs.Stages.{IsHeld, Says, Taken, Untaken, Took}
+use Rattle.command_stages.specs.Stages.{IsHeld, Taken, Untaken, Took}
 use Rattle.command_stages.specs.Causes.{OwesNoCall}
 use Rattle.command_stages.proofs.Causes.{caused_by_no_call, memory_caused}
 

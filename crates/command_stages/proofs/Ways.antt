@@ -3,11 +3,10 @@ use Rattle.std.proofs.Common.{◌≡◌, ◌⊎◌, inl, inr, ⊎_elim, ℕ, ◌
 use Rattle.std.specs.Prelude.{Option, Some, None, IsSome, Result, Ok, Err, IsOk}
 use Rattle.std.specs.Option.{ForSome}
 use Rattle.std.specs.FinMap as map
-use Rattle.outer_io.specs.Store.{Files, StoreState, OnlyReads, file, contents}
+use Rattle.outer_io.specs.Store.{Files, StoreState, OnlyReads, file}
 use Rattle.outer_io.specs.declared.faults.Damage.TheVariants.{Changed}
 use Rattle.file_model.specs.declared.faults.FileFault.TheVariants as faults
 use Rattle.file_model.specs.declared.head.Wanted.{Wanted}
-use Rattle.set_table.specs.declared.SetName.{SetName}
 use Rattle.file_model.specs.FileText.{FileContent}
 use Rattle.file_model.specs.Heads.{IsHeadOf}
 use Rattle.file_model.specs.declared.head.Head.{Head}
@@ -16,17 +15,17 @@ use Rattle.command_words.specs.Form.{form_of, IsOperand}
 use Rattle.command_words.specs.Status.{parts_of}
 use Rattle.command_words.specs.declared.form.Form.{Form}
 use Rattle.command_words.specs.declared.status.Status.{Status}
-use Rattle.command_words.specs.declared.status.Status.TheVariants.{Memory, ReadFault, WriteFault, MissingFile, Damaged}
+use Rattle.command_words.specs.declared.status.Status.TheVariants.{Memory, WriteFault, MissingFile, Damaged}
 use Rattle.command_words.specs.Line.{accepted_text}
 use Rattle.command_model.specs.Reading.{Sort, own_file, Said, taken, Reading, read, refused, done, unless, Output, accepted, and_then, so_if_ok, outcome, IsReached, MayRefuse}
-use Rattle.command_model.specs.Plan.{reading, reading_of_form, for_set, plan, out_name, IsWritten}
-use Rattle.command_model.specs.Answers.{IsFault, IsDone, IsOperandOf, AreLeft}
+use Rattle.command_model.specs.Plan.{reading_of_form, for_named, out_name, IsWritten}
+use Rattle.command_model.specs.Answers.{IsOperandOf, AreLeft}
 use Rattle.command_model.specs.Plain.{Item, State, Stands, IsItem, item_made, step, step_of_form, with_item_at}
 use Rattle.command_model.specs.Batches.{NoCountFell}
 use Rattle.command_model.specs.Commanded.{Caused, Finished, Stopped, Commanded, IsLeftToPut}
 use Rattle.command_model.proofs.Standing.{stands_with}
 use Rattle.command_stages.specs.Operands.{HasContentAt}
-use Rattle.command_stages.specs.Stages.{Says, Taken, Untaken, Way, IsSecondRefusal, MayReread, Unmade, Made, Wrote}
+use Rattle.command_stages.specs.Stages.{Says, Taken, Untaken, Way, MayReread, Unmade, Made, Wrote}
 use Rattle.command_stages.specs.Causes.{OwesNoCall, OwesNothing}
 use Rattle.command_stages.proofs.Causes.{caused_by_nothing, caused_as, caused_behind, memory_caused, reads_nothing}
 
@@ -84,11 +83,11 @@ pub refused_by : {words : List (List ℕ)} {refusal : Option Status} (rest : Rea
 refused_by {words} {refusal} rest {old} {now} {status} some =
     subst (λ (r : Option Status). Way words (unless r rest) old now → Way words (refused status) old now) (sym some) (λ way. way)
 
--- a set is named where the reading wants one
-pub with_set : {words : List (List ℕ)} {named : Option SetName} (rest : SetName → Reading) {old now : StoreState} {set : SetName} → named ≡ Some set
-    → Way words (for_set named rest) old now → Way words (rest set) old now
-with_set {words} {named} rest {old} {now} {set} some =
-    subst (λ (n : Option SetName). Way words (for_set n rest) old now → Way words (rest set) old now) (sym some) (λ way. way)
+-- a word names what the reading wants
+pub with_named : {A : Type 0} {words : List (List ℕ)} {named : Option A} (rest : A → Reading) {old now : StoreState} {value : A} → named ≡ Some value
+    → Way words (for_named named rest) old now → Way words (rest value) old now
+with_named {A} {words} {named} rest {old} {now} {value} some =
+    subst (λ (n : Option A). Way words (for_named n rest) old now → Way words (rest value) old now) (sym some) (λ way. way)
 
 -- a word that names a file operand of a form does so of words of this form
 pub operand_named : (form : Form) (words : List (List ℕ)) (word : ℕ) → form_of words ≡ Some form → IsOperand form (length words) word → IsOperandOf (form_of words) (length words) word

@@ -1,6 +1,6 @@
 -- Stages behind the last refusal: files that are read again, and the file OUT.
 use Rattle.std.proofs.Common.{◌≡◌, ◌⊎◌, inl, inr, ⊎_elim, ℕ, ◌≤◌, List, refl, sym, ◌∙◌, ap, subst, le_trans, le_refl}
-use Rattle.std.specs.Prelude.{Option, Some, None, Result, Ok, Err, IfErr}
+use Rattle.std.specs.Prelude.{Option, None, Ok, Err}
 use Rattle.std.specs.Option.{ForSome}
 use Rattle.outer_io.specs.Store.{Files, StoreState, OnlyReads, OnlyWrites, with_file}
 use Rattle.outer_io.specs.declared.faults.StoreFault.{StoreFault}
@@ -9,7 +9,7 @@ use Rattle.file_model.specs.Reading.{FileCause, IsSecondFault}
 use Rattle.file_model.specs.declared.faults.FileFault.{FileFault}
 use Rattle.file_model.specs.declared.faults.FileFault.TheVariants as faults
 use Rattle.command_words.specs.declared.status.Status.{Status}
-use Rattle.command_words.specs.declared.status.Status.TheVariants.{Memory, WriteFault}
+use Rattle.command_words.specs.declared.status.Status.TheVariants.{Memory}
 use Rattle.command_model.specs.Reading.{status_of}
 use Rattle.command_model.specs.Answers.{IsFault}
 use Rattle.command_model.specs.Batches.{NoCountFell}

@@ -1,5 +1,5 @@
 -- Words as strings and as lists of bytes.
-use Rattle.std.proofs.Common.{◌≡◌, ◌≢◌, ◌<◌, ◌≤◌, inl, inr, Bool, true, false, ◌||◌, ℕ, List, [], ◌∷◌, ◌++◌, map, refl, sym, ap, arith, append-nil, length, get_or, ◌&&◌, nat_le, ◌-◌, take, drop}
+use Rattle.std.proofs.Common.{◌≡◌, ◌<◌, ◌≤◌, inl, inr, subst, Bool, true, false, ◌||◌, ℕ, List, [], ◌∷◌, ◌++◌, map, refl, sym, ap, arith, append-nil, length, get_or, ◌&&◌, nat_le, ◌-◌, take, drop}
 use Rattle.std.specs.Prelude.{String, Option, Some, None, is_some, codes, if◌then◌else◌}
 use Rattle.std.specs.Str.{bytes_eq}
 use Rattle.std.proofs.lemmas.List.{length-map}
@@ -10,10 +10,12 @@ use Rattle.std.specs.String.{string_bytes}
 use Rattle.std.specs.declared.alloc.Global.{Global}
 use Rattle.set_table.specs.declared.SetName.{SetName}
 use Rattle.set_table.specs.Sets.{set_named}
-use Rattle.command_words.specs.Form.{has_empty_word, form_of, form_of_three, form_of_full_words, is_binding, is_run, HasCount, IsOperand}
+use Rattle.command_words.specs.Step.{step_named}
+use Rattle.command_words.specs.Form.{has_empty_word, form_of, form_of_three, form_of_four, form_of_full_words, is_binding, is_run, HasCount, IsOperand}
 use Rattle.command_words.specs.Line.{text_about, word_at}
 use Rattle.command_words.specs.declared.form.Form.{Form}
-use Rattle.command_words.specs.declared.form.Form.TheVariants.{Secret, Public, Encrypt, Run, Decrypt, Check, Batch}
+use Rattle.command_words.specs.declared.form.Form.TheVariants.{Secret, Public, Relin, Turn, Encrypt, Run, Decrypt, Check, Batch}
+use Rattle.command_words.specs.declared.step.Step.{Step}
 
 -- one of the strings passes a test of bytes exactly where one of the words does
 pub list_any-map : (test : List ℕ → Bool) (words : List (String Global)) → list_any test (map string_bytes words) ≡ list_any (λ word. test (string_bytes word)) words
@@ -31,6 +33,18 @@ full_four (_ ∷ _ ∷ []) command first least below is second = absurd (omega a
 full_four (_ ∷ _ ∷ _ ∷ []) command first least below is second = absurd (omega arith)
 full_four (_ ∷ _ ∷ _ ∷ _ ∷ _ ∷ _) command first least below is second = absurd (omega arith)
 
+-- the form of five words is told by the first and the third
+pub full_five : (words : List (String Global)) (command second : String Global) → 5 ≤ length words → length words < 6
+    → command ≡ get_or words 0 command → second ≡ get_or words 2 second
+    → form_of_full_words (map string_bytes words) ≡ form_of_four (string_bytes command) (string_bytes second)
+full_five (_ ∷ _ ∷ _ ∷ _ ∷ _ ∷ []) command second least below is third = rw is (rw third refl)
+full_five [] command second least below is third = absurd (omega arith)
+full_five (_ ∷ []) command second least below is third = absurd (omega arith)
+full_five (_ ∷ _ ∷ []) command second least below is third = absurd (omega arith)
+full_five (_ ∷ _ ∷ _ ∷ []) command second least below is third = absurd (omega arith)
+full_five (_ ∷ _ ∷ _ ∷ _ ∷ []) command second least below is third = absurd (omega arith)
+full_five (_ ∷ _ ∷ _ ∷ _ ∷ _ ∷ _ ∷ _) command second least below is third = absurd (omega arith)
+
 -- whether words are those of `run`
 pub run_words : (words : List (String Global)) (command : String Global) → 3 ≤ length words → command ≡ get_or words 0 command
     → is_run (map string_bytes words) ≡ (bytes_eq (string_bytes command) (codes "run")
@@ -47,6 +61,10 @@ pub operand_below : (form : Form) (word count : ℕ) → HasCount form count →
 operand_below Secret word count is second = omega arith
 operand_below Public word count is (inl first) = omega arith
 operand_below Public word count is (inr second) = omega arith
+operand_below Relin word count is (inl first) = omega arith
+operand_below Relin word count is (inr second) = omega arith
+operand_below Turn word count is (inl first) = omega arith
+operand_below Turn word count is (inr third) = omega arith
 operand_below Encrypt word count is (inl first) = omega arith
 operand_below Encrypt word count is (inr (inl second)) = omega arith
 operand_below Encrypt word count is (inr (inr third)) = omega arith
@@ -65,47 +83,41 @@ pub text_about-split : (words : List (List ℕ)) (text : List ℕ) (whole : Bool
 text_about-split words text whole None = sym (append-nil text)
 text_about-split words text whole (Some word) = refl
 
--- the form of words that are not those of `run`
-pub form_without_run : (words : List (List ℕ)) (form : Form) → form ≢ Run → form_of words ≡ Some form → form_of_full_words words ≡ Some form
-form_without_run words form other is = cases (has_empty_word words) (is_run words) is
-  where
-    cases : (empty run : Bool) → (if empty then None else (if run then Some Run else form_of_full_words words)) ≡ Some form → form_of_full_words words ≡ Some form
-    cases true run is = absurd (cc)
-    cases false true is = absurd (other (cc))
-    cases false false is = is
+-- ---- what words with a form say besides
+-- words with the form of a secret name a set, those of a turn a step, and those of a batch begin with its name
+abbrev pub Says : Form → List (List ℕ) → Type 0
+Says Secret words = (set : SetName) × (set_named (word_at words 1) ≡ Some set)
+Says Turn words = (step : Step) × (step_named (word_at words 2) ≡ Some step)
+Says Batch words = bytes_eq (word_at words 0) (codes "batch") ≡ true
+Says _ words = Unit {0}
 
--- words with the form of a command that makes a secret name a set
-pub secret_names_set : (words : List (List ℕ)) → form_of words ≡ Some Secret → (set : SetName) × (set_named (word_at words 1) ≡ Some set)
-unfolding form_of_three
-secret_names_set words is = of_full words (form_without_run words Secret (λ same. absurd (cc)) is)
-  where
-    of_set : (found : Option SetName) → (if is_some found then Some Secret else None) ≡ Some Secret → (set : SetName) × (found ≡ Some set)
-    of_set (Some set) is = (set, refl)
-    of_set None is = absurd (cc)
+by_test : {S : Type 0} {form : Form} {a b : Option Form} (test : Bool) → (test ≡ true → a ≡ Some form → S) → (b ≡ Some form → S) → (if test then a else b) ≡ Some form → S
+by_test true first second is = first refl is
+by_test false first second is = second is
 
-    of_two : (test other : Bool) → (if test then Some Public else (if other then Some Decrypt else None)) ≡ Some Secret → ⊥
-    of_two true other is = cc
-    of_two false true is = cc
-    of_two false false is = cc
+here : (words : List (List ℕ)) (form found : Form) → Says found words → Some found ≡ Some form → Says form words
+here words form found says is = let same : found ≡ form = cc in subst (λ (f : Form). Says f words) same says
 
-    of_three : (first : List ℕ) (command public decrypt : Bool)
-        → (if command then (if is_some (set_named first) then Some Secret else None) else (if public then Some Public else (if decrypt then Some Decrypt else None))) ≡ Some Secret
-        → (set : SetName) × (set_named first ≡ Some set)
-    of_three first true public decrypt is = of_set (set_named first) is
-    of_three first false public decrypt is = absurd (of_two public decrypt is)
+nowhere : {S : Type 0} {form : Form} → None ≡ Some form → S
+nowhere is = absurd (cc)
 
-    of_one : (test other : Bool) → (if test then Some Check else (if other then Some Batch else None)) ≡ Some Secret → ⊥
-    of_one true other is = cc
-    of_one false true is = cc
-    of_one false false is = cc
+is_there : {A : Type 0} (found : Option A) → is_some found ≡ true → (value : A) × (found ≡ Some value)
+is_there (Some value) some = (value, refl)
+is_there None some = absurd (cc)
 
-    of_four : (test : Bool) → (if test then Some Encrypt else None) ≡ Some Secret → ⊥
-    of_four true is = cc
-    of_four false is = cc
+full_words_say : (words : List (List ℕ)) (form : Form) → form_of_full_words words ≡ Some form → Says form words
+unfolding form_of_three form_of_four
+full_words_say (command ∷ first ∷ []) form is =
+    by_test (bytes_eq command (codes "check")) (λ _. here _ _ Check tt) (by_test (bytes_eq command (codes "batch")) (λ named. here _ _ Batch named) nowhere) is
+full_words_say (command ∷ first ∷ second ∷ third ∷ []) form is =
+    by_test (bytes_eq command (codes "secret")) (λ _. by_test (is_some (set_named first)) (λ some. here _ _ Secret (is_there (set_named first) some)) nowhere)
+    (by_test (bytes_eq command (codes "public")) (λ _. here _ _ Public tt)
+    (by_test (bytes_eq command (codes "relin")) (λ _. here _ _ Relin tt)
+    (by_test (bytes_eq command (codes "decrypt")) (λ _. here _ _ Decrypt tt) nowhere))) is
+full_words_say (command ∷ first ∷ second ∷ third ∷ fourth ∷ []) form is =
+    by_test (bytes_eq command (codes "encrypt")) (λ _. here _ _ Encrypt tt)
+    (by_test (bytes_eq command (codes "turn")) (λ _. by_test (is_some (step_named second)) (λ some. here _ _ Turn (is_there (step_named second) some)) nowhere) nowhere) is
+full_words_say _ form is = absurd (cc)
 
-    of_full : (ws : List (List ℕ)) → form_of_full_words ws ≡ Some Secret → (set : SetName) × (set_named (word_at ws 1) ≡ Some set)
-    of_full (command ∷ first ∷ []) is = absurd (of_one (bytes_eq command (codes "check")) (bytes_eq command (codes "batch")) is)
-    of_full (command ∷ first ∷ second ∷ third ∷ []) is =
-        of_three first (bytes_eq command (codes "secret")) (bytes_eq command (codes "public")) (bytes_eq command (codes "decrypt")) is
-    of_full (command ∷ first ∷ second ∷ third ∷ fourth ∷ []) is = absurd (of_four (bytes_eq command (codes "encrypt")) is)
-    of_full _ is = absurd (cc)
+pub words_say : (words : List (List ℕ)) (form : Form) → form_of words ≡ Some form → Says form words
+words_say words form is = by_test (has_empty_word words) (λ _. nowhere) (by_test (is_run words) (λ _. here _ _ Run tt) (full_words_say words form)) is

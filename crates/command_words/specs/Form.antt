@@ -4,8 +4,9 @@ use Rattle.std.specs.Str.{bytes_eq}
 use Rattle.std.specs.List.{list_any, list_all, before_first, after_first}
 use Rattle.line_text.specs.Names.{is_name}
 use Rattle.set_table.specs.Sets.{set_named}
+use Rattle.command_words.specs.Step.{step_named}
 use Rattle.command_words.specs.declared.form.Form.{Form}
-use Rattle.command_words.specs.declared.form.Form.TheVariants.{Secret, Public, Encrypt, Run, Decrypt, Check, Batch}
+use Rattle.command_words.specs.declared.form.Form.TheVariants.{Secret, Public, Relin, Turn, Encrypt, Run, Decrypt, Check, Batch}
 
 -- one of the words is empty
 abbrev pub has_empty_word : List (List ℕ) → Bool
@@ -20,17 +21,20 @@ unfoldable pub form_of_three : List ℕ → List ℕ → Option Form
 form_of_three command first =
     if bytes_eq command (codes "secret") then (if is_some (set_named first) then Some Secret else None)
     else (if bytes_eq command (codes "public") then Some Public
-    else (if bytes_eq command (codes "decrypt") then Some Decrypt else None))
+    else (if bytes_eq command (codes "relin") then Some Relin
+    else (if bytes_eq command (codes "decrypt") then Some Decrypt else None)))
 
--- the form of four words behind a command's name
-abbrev pub form_of_four : List ℕ → Option Form
-form_of_four command = if bytes_eq command (codes "encrypt") then Some Encrypt else None
+-- the form of four words behind a command's name. A turn goes by a step that is named.
+unfoldable pub form_of_four : List ℕ → List ℕ → Option Form
+form_of_four command second =
+    if bytes_eq command (codes "encrypt") then Some Encrypt
+    else (if bytes_eq command (codes "turn") then (if is_some (step_named second) then Some Turn else None) else None)
 
 -- the form that words have by the first of them and by their number, where none is empty
 abbrev pub form_of_full_words : List (List ℕ) → Option Form
 form_of_full_words (command ∷ first ∷ []) = form_of_one command
 form_of_full_words (command ∷ first ∷ second ∷ third ∷ []) = form_of_three command first
-form_of_full_words (command ∷ first ∷ second ∷ third ∷ fourth ∷ []) = form_of_four command
+form_of_full_words (command ∷ first ∷ second ∷ third ∷ fourth ∷ []) = form_of_four command second
 form_of_full_words _ = None
 
 -- the sign between the name of an input and that of a file
@@ -61,6 +65,7 @@ form_of words = if has_empty_word words then None else (if is_run words then Som
 -- a form may have so many words
 abbrev pub HasCount : Form → ℕ → Type 0
 HasCount Encrypt count = count ≡ 5
+HasCount Turn count = count ≡ 5
 HasCount Check count = count ≡ 2
 HasCount Batch count = count ≡ 2
 HasCount Run count = (3 ≤ count) × (count ≤ 1000)
@@ -70,6 +75,8 @@ HasCount _ count = count ≡ 4
 abbrev pub IsOperand : Form → ℕ → ℕ → Type 0
 IsOperand Secret count word = word ≡ 2
 IsOperand Public count word = (word ≡ 1) ⊎ (word ≡ 2)
+IsOperand Relin count word = (word ≡ 1) ⊎ (word ≡ 2)
+IsOperand Turn count word = (word ≡ 1) ⊎ (word ≡ 3)
 IsOperand Encrypt count word = (word ≡ 1) ⊎ (word ≡ 2) ⊎ (word ≡ 3)
 IsOperand Run count word = (word ≡ 1) ⊎ ((3 ≤ word) × (word < count))
 IsOperand Decrypt count word = (word ≡ 1) ⊎ (word ≡ 2)
@@ -79,6 +86,7 @@ IsOperand Batch count word = word ≡ 1
 -- the number of the word that names the file OUT, where a form writes one
 abbrev pub out_word : Form → Option ℕ
 out_word Encrypt = Some 4
+out_word Turn = Some 4
 out_word Run = Some 2
 out_word Check = None
 out_word Batch = None

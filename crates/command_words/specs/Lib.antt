@@ -1,3 +1,4 @@
+pub mod Step
 pub mod Form
 pub mod Status
 pub mod Line

@@ -12,7 +12,7 @@ use Rattle.script_text.specs.declared.faults.ValuePlace.{ValuePlace}
 use Rattle.script_text.specs.declared.faults.ValuePlace.TheVariants.{BadText, TooLarge, TooMany, TooLong}
 use Rattle.command_words.specs.declared.status.BindingFault.TheVariants.{Undeclared, Twice, Unbound}
 use Rattle.command_words.specs.declared.status.Status.{Status}
-use Rattle.command_words.specs.declared.status.Status.TheVariants.{Done, Usage, Memory, ReadFault, WriteFault, MissingFile, NotOurs, Version, Damaged, WrongKind, SetMismatch, KeyMismatch, BadValues, BadScript, TooNoisy, Binding, NoSpecial, ShortSeed, PartsMismatch}
+use Rattle.command_words.specs.declared.status.Status.TheVariants.{Done, Usage, Memory, ReadFault, WriteFault, MissingFile, NotOurs, Version, Damaged, WrongKind, SetMismatch, KeyMismatch, BadValues, BadScript, TooNoisy, Binding, NoSpecial, ShortSeed, BadStep, PartsMismatch}
 
 -- the parts of a status: the exit status of the program, what it is called, a number that belongs to that, the number of the
 -- word that it keeps, whether this word is told whole or by the file that it names, and what else is to be said
@@ -106,6 +106,7 @@ parts_of (Binding (Unbound input)) = record {
 }
 parts_of (NoSpecial set) = record { code = 18; text = codes "no special modulus"; number = None; word = None; whole = false; detail = codes ": " ++ name_of set }
 parts_of (ShortSeed word have) = record { code = 19; text = codes "short seed"; number = None; word = Some word; whole = false; detail = text_and_number (codes " ") have }
+parts_of (BadStep step half) = record { code = 20; text = codes "bad step"; number = None; word = None; whole = false; detail = text_and_number (codes ": ") step }
 parts_of (PartsMismatch word have want) = record {
   code = 26;
   text = codes "parts mismatch";

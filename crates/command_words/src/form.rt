@@ -4,7 +4,9 @@ ghost use Rattle.std.specs.List.{list_all, list_any};
 ghost use Rattle.std.specs.String.{string_bytes};
 ghost use Rattle.set_table.specs.Sets.{set_named};
 ghost use Rattle.command_words.specs.Form as form;
+ghost use Rattle.command_words.specs.Step.{step_named};
 
+use crate::step::step_named;
 use line_text::is_name;
 use set_table::SetName;
 
@@ -15,6 +17,10 @@ pub enum Form {
     Secret,
     /// `public SEC SEEDFILE OUT` makes a public key.
     Public,
+    /// `relin SEC SEEDFILE OUT` makes a key of relinearisation.
+    Relin,
+    /// `turn SEC STEP SEEDFILE OUT` makes a key for the turn by a step.
+    Turn,
     /// `encrypt PUB SEEDFILE VALUES OUT` encrypts a text of values.
     Encrypt,
     /// `run SCRIPT OUT BINDING..` runs a script on encrypted and plain values. A binding `NAME=FILE`
@@ -99,7 +105,7 @@ fn form_of_full_words(words: &[String]) -> Option<Form>
     match words {
         [command, _] => form_of_one(command.as_str()),
         [command, first, _, _] => form_of_three(command.as_str(), first.as_str()),
-        [command, _, _, _, _] => form_of_four(command.as_str()),
+        [command, _, second, _, _] => form_of_four(command.as_str(), second.as_str()),
         _ => None,
     }
 }
@@ -128,6 +134,9 @@ fn form_of_three(command: &str, first: &str) -> Option<Form>
     if command == "public" {
         return Some(Form::Public);
     }
+    if command == "relin" {
+        return Some(Form::Relin);
+    }
     if command == "decrypt" {
         return Some(Form::Decrypt);
     }
@@ -140,13 +149,22 @@ fn form_of_secret(set: &str) -> Option<Form>
     SetName::from_text(set).map(|_| Form::Secret)
 }
 
-fn form_of_four(command: &str) -> Option<Form>
-    ensures form { result ≡ form.form_of_four command.now }
+#[tactic(auto, unfolding(crate::specs::Form::form_of_four))]
+fn form_of_four(command: &str, second: &str) -> Option<Form>
+    ensures form { result ≡ form.form_of_four command.now second.now }
     ensures count { IfSome result (λ f. form.HasCount f 5) }
 {
     if command == "encrypt" {
-        Some(Form::Encrypt)
-    } else {
-        None
+        return Some(Form::Encrypt);
     }
+    if command == "turn" {
+        return form_of_turn(second);
+    }
+    None
+}
+
+fn form_of_turn(step: &str) -> Option<Form>
+    ensures { result ≡ (if is_some (step_named step.now) then Some Form.Turn else None) }
+{
+    step_named(step).map(|_| Form::Turn)
 }

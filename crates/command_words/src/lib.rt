@@ -5,9 +5,11 @@
 mod form;
 mod line;
 mod status;
+mod step;
 #[cfg(test)]
 mod tests;
 
 pub use form::{Form, binding_file, binding_name, form_of};
 pub use line::{accepted_line, put_line};
 pub use status::{BindingFault, Status};
+pub use step::{Step, step_named};

@@ -120,6 +120,7 @@ fn put_detail<O: Sink>(out: &mut O, status: Status) -> Result<(), SinkFault>
         Status::Binding { fault } => put_binding(out, fault),
         Status::NoSpecial { set } => put_two(out, b": ", set.text().as_bytes()),
         Status::ShortSeed { have, .. } => put_number(out, " ", have as u64),
+        Status::BadStep { step, .. } => put_number(out, ": ", step),
         Status::PartsMismatch { have, want, .. } => put_parts(out, have, want),
         _ => out.put(b""),
     }

@@ -107,7 +107,7 @@ pub enum Status {
     Binding {
         fault: BindingFault,
     },
-    /// A script switches keys, and its set has no special modulus.
+    /// A switching key is needed or is to be made, and the set has no special modulus.
     NoSpecial {
         set: SetName,
     },
@@ -115,6 +115,11 @@ pub enum Status {
     ShortSeed {
         word: u32,
         have: u32,
+    },
+    /// A turn by `step` places isn't one by fewer than `half`, the length of a half of the slots.
+    BadStep {
+        step: u64,
+        half: u64,
     },
     /// A cipher has `have` parts.
     PartsMismatch {
@@ -148,6 +153,7 @@ impl Status {
             Status::Binding { .. } => 17,
             Status::NoSpecial { .. } => 18,
             Status::ShortSeed { .. } => 19,
+            Status::BadStep { .. } => 20,
             Status::PartsMismatch { .. } => 26,
         }
     }
@@ -175,6 +181,7 @@ impl Status {
             Status::Binding { fault } => fault.text(),
             Status::NoSpecial { .. } => "no special modulus",
             Status::ShortSeed { .. } => "short seed",
+            Status::BadStep { .. } => "bad step",
             Status::PartsMismatch { .. } => "parts mismatch",
         }
     }
@@ -212,7 +219,8 @@ impl Status {
             | Status::WriteFault
             | Status::BadScript { .. }
             | Status::TooNoisy { .. }
-            | Status::NoSpecial { .. } => None,
+            | Status::NoSpecial { .. }
+            | Status::BadStep { .. } => None,
         }
     }
     /// Whether the word is told whole, and not by the name of a file.

@@ -1,5 +1,6 @@
 pub mod Bytes
 pub mod FileText
+pub mod KeyWords
 pub mod DrawnFiles
 pub mod Heads
 pub mod Fronts

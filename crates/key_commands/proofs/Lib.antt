@@ -6,3 +6,7 @@ pub mod Owners
 pub mod MadeItems
 pub mod OpenedItems
 pub mod Matching
+pub mod DrawnKeys
+pub mod SwitchItems
+pub mod SwitchWays
+pub mod MadeDigits

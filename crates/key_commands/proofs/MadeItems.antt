@@ -58,11 +58,11 @@ pub belongs_wanted : (wanted : Wanted) (owner : Owner) (kind : FileKind) (conten
 belongs_wanted wanted owner kind content fits belongs = ap (wants wanted) belongs.is_kind ∙ fits
 
 -- the owner of a secret, by the set and the key id that a content states
-abbrev owner_of : FileContent → List ℕ → Owner
+abbrev pub owner_of : FileContent → List ℕ → Owner
 owner_of content secret = record { set = content.set; key_id = content.key_id; secret = secret }
 
 -- a content that belongs to an owner states its set and its key id
-owner_of_content : (owner : Owner) (kind : FileKind) (content : FileContent) → BelongsTo owner kind content → owner ≡ owner_of content owner.secret
+pub owner_of_content : (owner : Owner) (kind : FileKind) (content : FileContent) → BelongsTo owner kind content → owner ≡ owner_of content owner.secret
 owner_of_content owner kind content belongs = sym (ap (λ (set : SetName). record { set = set; key_id = content.key_id; secret = owner.secret }) belongs.of_set
     ∙ ap (λ (id : List ℕ). record { set = owner.set; key_id = id; secret = owner.secret }) belongs.of_key)
 

@@ -1,6 +1,6 @@
 -- Files that don't match.
-use Rattle.std.proofs.Common.{◌≡◌, ℕ, ◌≤◌, refl, subst}
-use Rattle.std.specs.Prelude.{Bool, true, false, ◌==◌, if◌then◌else◌, Option, Some, None}
+use Rattle.std.proofs.Common.{◌≡◌, ℕ, subst}
+use Rattle.std.specs.Prelude.{Bool, true, false, ◌==◌, if◌then◌else◌, Some, None}
 use Rattle.std.specs.Option.{option_or}
 use Rattle.std.specs.Str.{bytes_eq}
 use Rattle.outer_io.specs.Store.{StoreState}

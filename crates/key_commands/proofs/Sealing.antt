@@ -1,8 +1,6 @@
 -- Ciphers that are drawn for values, from the words of their rows to the file that is written.
 use Rattle.std.proofs.Common.{◌≡◌, ℕ, zero, suc, ◌*◌, ◌<◌, ℤ, pos, ◌+ℤ◌, List, length, slice_index, refl, sym, ◌∙◌, ap, subst, arith}
-use Rattle.std.specs.Prelude.{Option, Some, Ok}
 use Rattle.rand_core.specs.Stream.{Stream}
-use Rattle.outer_io.specs.Store.{Files, with_file}
 use Rattle.set_table.specs.declared.SetName.{SetName}
 use Rattle.set_table.specs.Sets.{degree_of, plain_of, data_of}
 use Rattle.ring_law.specs.Moduli.{product}
@@ -27,7 +25,6 @@ use Rattle.cipher_files.proofs.ListedWords.{listed_words_ext}
 use Rattle.command_model.specs.Plan.{IsFreshCipher, seed_word}
 use Rattle.key_commands.specs.Encrypted.{IsSealing}
 use Rattle.command_stages.specs.Operands.{AreValues}
-use Rattle.command_stages.specs.Stages.{Wrote}
 
 -- ---- the cipher of values
 -- values of a set are reduced modulo its plaintext modulus

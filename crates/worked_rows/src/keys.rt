@@ -45,7 +45,7 @@ fn outcome_of(
 }
 
 /// The length of a file that ends in the digest with these hexadecimal digits.
-fn length_of(store: &MemStore, name: &str, digits: &str) -> Option<usize> {
+pub fn length_of(store: &MemStore, name: &str, digits: &str) -> Option<usize> {
     let bytes = store.file(name)?;
     let mut digest = [0; 32];
     hex::decode_to_slice(digits, &mut digest).ok()?;

@@ -16,4 +16,6 @@ mod keys;
 #[cfg(test)]
 mod runs;
 #[cfg(test)]
+mod switch_keys;
+#[cfg(test)]
 mod words;

@@ -1,10 +1,8 @@
-use Rattle.std.proofs.Common.{◌≡◌, inl, inr, ⊎_elim, refl, sym, ap, subst, ◌∙◌, map}
+use Rattle.std.proofs.Common.{◌≡◌, inl, inr, ⊎_elim, refl, sym, ap, subst, ◌∙◌}
 use Rattle.std.specs.Prelude.{Err}
-use Rattle.std.specs.String.{string_bytes}
 use Rattle.std.proofs.lemmas.Result.{IfOk-weaker, IfErr-weaker}
-use Rattle.command_words.specs.Line.{word_at}
 use Rattle.command_words.specs.declared.status.Status.TheVariants.{BadScript}
-use Rattle.command_model.specs.Reading.{script_file, or_refused, said_by}
+use Rattle.command_model.specs.Reading.{script_file, or_refused}
 use Rattle.command_stages.specs.Stages.{Took}
 use Rattle.command_stages.proofs.Taking.{RefusedBy, took_text, script_refused}
 use Rattle.command_stages.proofs.Checking.{script_of_front}

@@ -3,7 +3,7 @@ use Rattle.std.specs.Prelude.{Err}
 use Rattle.std.proofs.lemmas.Result.{IfOk-weaker, IfErr-weaker}
 use Rattle.set_table.specs.Sets.{degree_of, plain_of}
 use Rattle.command_words.specs.declared.status.Status.TheVariants.{BadValues}
-use Rattle.command_model.specs.Reading.{values_file, or_refused, said_by}
+use Rattle.command_model.specs.Reading.{values_file, or_refused}
 use Rattle.command_stages.specs.Stages.{Untaken}
 use Rattle.command_stages.proofs.Taking.{RefusedBy, took_text, unread, values_refused}
 use Rattle.command_stages.proofs.ValueTexts.{values_of_front, values_of_taken}

@@ -1,9 +1,7 @@
 use Rattle.std.proofs.Common.{◌≡◌, inl, inr, List, ℕ, map, refl, sym, ◌∙◌, ap, subst}
-use Rattle.std.specs.Prelude.{Some}
 use Rattle.std.specs.String.{string_bytes}
 use Rattle.std.proofs.lemmas.Result.{err_from_is_err_and}
 use Rattle.set_table.specs.declared.SetName.{SetName}
-use Rattle.outer_io.specs.Store.{StoreState}
 use Rattle.file_model.specs.FileText.{FileContent}
 use Rattle.command_words.specs.Line.{word_at}
 use Rattle.command_words.specs.declared.form.Form.TheVariants as form

@@ -1,4 +1,4 @@
-use Rattle.std.proofs.Common.{◌≡◌, List, ℕ, ap, length, map, sym, subst, ◌∙◌, refl, lit<}
+use Rattle.std.proofs.Common.{◌≡◌, List, ℕ, ap, length, map, sym, subst, ◌∙◌, lit<}
 use Rattle.std.specs.Prelude.{Ok, Err}
 use Rattle.std.specs.String.{string_bytes}
 use Rattle.std.proofs.lemmas.Result.{err_from_is_err_and}

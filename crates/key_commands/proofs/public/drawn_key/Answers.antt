@@ -1,12 +1,9 @@
-use Rattle.std.proofs.Common.{◌≡◌, map, ap}
-use Rattle.std.specs.String.{string_bytes}
+use Rattle.std.proofs.Common.{ap}
 use Rattle.std.proofs.lemmas.Result.{err_from_is_err_and}
-use Rattle.outer_io.specs.Store.{Files}
 use Rattle.ring_law.specs.Rows.{listed_polynomial}
 use Rattle.bfv_model.specs.Holds.{secret_polynomial}
 use Rattle.bfv_params.specs.Values.{ContextValue}
 use Rattle.command_model.specs.Plan.{seed_word}
-use Rattle.command_stages.specs.Operands.{HasContent}
 use Rattle.command_stages.proofs.Writing.{made_for_memory, unmade_before}
 use Rattle.key_commands.proofs.DrawnContents.{drawn_for}
 use Rattle.key_commands.proofs.public.drawn_key.Goals as goal

@@ -10,12 +10,12 @@ use Rattle.file_model.specs.DrawnFiles.{drawn_secret_file}
 use Rattle.command_words.specs.Form.{form_of}
 use Rattle.command_words.specs.Line.{word_at}
 use Rattle.command_words.specs.declared.form.Form.TheVariants as form
-use Rattle.command_words.proofs.Words.{secret_names_set}
+use Rattle.command_words.proofs.Words.{words_say}
 use Rattle.command_model.specs.Reading.{Reading, seed_file, read_word, done, file_with}
 use Rattle.command_model.specs.Plan.{seed_word}
 use Rattle.command_model.specs.Plain.{drawn}
 use Rattle.command_stages.specs.Stages.{Way}
-use Rattle.command_stages.proofs.Ways.{start, with_set, taken_on, says_taken, operand_named, stopped_at, commanded, commanded_stop}
+use Rattle.command_stages.proofs.Ways.{start, with_named, taken_on, says_taken, operand_named, stopped_at, commanded, commanded_stop}
 use Rattle.key_commands.proofs.MadeItems.{item_drawn}
 use Rattle.key_commands.proofs.secret.secret.Goals as goal
 
@@ -23,7 +23,7 @@ pub unreachable-requires : goal.unreachable-requires
 unreachable-requires g c =
     let words = map string_bytes c.args.words.now in
     let none = sym c.in_default.is ∙ c.from_text.ensures.named ∙ ap set_named c.name_of.ensures in
-    let named = secret_names_set words c.requires.form in
+    let named = words_say words form.Secret c.requires.form in
     let some = named.1 in
     cc
 
@@ -33,7 +33,7 @@ by_seed words set = read_word words 2 seed_file (λ seed. done (file_with (drawn
 
 -- no file was read yet
 begun : (words : List (List ℕ)) (state : StoreState) (set : SetName) → form_of words ≡ Some form.Secret → set_named (word_at words 1) ≡ Some set → Way words (by_seed words set) state state
-begun words state set is named = with_set (by_seed words) named (start form.Secret words state is)
+begun words state set is named = with_named (by_seed words) named (start form.Secret words state is)
 
 pub returns-in_err-seed : goal.returns-in_err-seed
 returns-in_err-seed g c =

@@ -1,6 +1,5 @@
-use Rattle.std.proofs.Common.{◌≡◌, List, ℕ, ap, sym, subst, ◌∙◌}
+use Rattle.std.proofs.Common.{◌≡◌, List, ℕ, ap, sym, subst}
 use Rattle.std.specs.Prelude.{Err}
-use Rattle.outer_io.specs.Store.{Files}
 use Rattle.file_model.specs.DrawnFiles.{drawn_secret_file}
 use Rattle.file_model.specs.FileText.{file_text}
 use Rattle.command_model.specs.Plan.{seed_word}

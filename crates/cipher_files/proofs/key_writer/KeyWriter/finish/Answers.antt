@@ -1,7 +1,8 @@
 use Rattle.std.proofs.Common.{◌≡◌, ◌<◌, sym, subst, ℕ}
 use Rattle.std.specs.Prelude.{Option, OnOk}
 use Rattle.outer_io.specs.Store.{Files}
-use Rattle.cipher_files.specs.Contents.{IsFront, digit_words, key_words}
+use Rattle.file_model.specs.KeyWords.{digit_words, key_words}
+use Rattle.cipher_files.specs.Contents.{IsFront}
 use Rattle.cipher_files.proofs.Contents.{ended, key_keeps_rules, key_words-count}
 use Rattle.cipher_files.proofs.key_writer.KeyWriter.finish.Goals as goal
 

@@ -5,7 +5,8 @@ use Rattle.std.proofs.lemmas.Bool.{cases_lt}
 use Rattle.set_table.specs.Sets.{data_of, degree_of, key_of}
 use Rattle.bfv_params.specs.Rows.{ReducedInTurn}
 use Rattle.bfv_model.specs.Holds.{listed_word}
-use Rattle.cipher_files.specs.Contents.{IsFront, digit_words}
+use Rattle.file_model.specs.KeyWords.{digit_words}
+use Rattle.cipher_files.specs.Contents.{IsFront}
 use Rattle.cipher_files.proofs.Contents.{digit_reduced, digit_words-more, front-more}
 use Rattle.cipher_files.proofs.key_writer.KeyWriter.put_digit.Goals as goal
 
