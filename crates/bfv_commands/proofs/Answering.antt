@@ -220,9 +220,9 @@ refusal_answered words old new status r printed puts = record {
 }
 
 -- the answer to a refusal is the status, or Memory
-reported : (words : List (List ℕ)) (old new : World) (status answer : Status) → Refusal words old new status → (answer ≡ status) ⊎ (answer ≡ Memory)
+answered_refusal : (words : List (List ℕ)) (old new : World) (status answer : Status) → Refusal words old new status → (answer ≡ status) ⊎ (answer ≡ Memory)
     → Printed words old.store.files old.sink new.sink answer → old.sink.faults ≤ new.sink.faults → Answered words old new answer
-reported words old new status answer r same printed puts =
+answered_refusal words old new status answer r same printed puts =
     refusal_answered words old new answer
     (⊎_elim (λ is. subst (Refusal words old new) (sym is) r) (λ is. subst (Refusal words old new) (sym is) (for_memory words old new status r)) same) printed puts
 
@@ -231,7 +231,7 @@ pub answered_stopped : {T : Type 0} {left : T → Option (List ℕ)} (words : Li
     → old.store.pending ≡ None → Commanded words left old.store new.store (Err status) → (answer ≡ status) ⊎ (answer ≡ Memory) → Printed words old.store.files old.sink new.sink answer
     → old.sink.faults ≤ new.sink.faults → Answered words old new answer
 answered_stopped {T} {left} words form old new status answer is idle did =
-    reported words old new status answer record {
+    answered_refusal words old new status answer record {
       other = did.err.caused.refused;
       idle = did.idle idle;
       counts = did.counts;
@@ -247,7 +247,7 @@ pub answered_usage : (words : List (List ℕ)) (store : StoreState) (old_sink ne
     → (answer ≡ Usage) ⊎ (answer ≡ Memory) → Printed words store.files old_sink new_sink answer → old_sink.faults ≤ new_sink.faults
     → Answered words (record { store = store; sink = old_sink }) (record { store = store; sink = new_sink }) answer
 answered_usage words store old_sink new_sink answer none idle =
-    reported words (record { store = store; sink = old_sink }) (record { store = store; sink = new_sink }) Usage answer record {
+    answered_refusal words (record { store = store; sink = old_sink }) (record { store = store; sink = new_sink }) Usage answer record {
       other = λ is. cc;
       idle = idle;
       counts = counts_of_reads (reads_nothing store);

@@ -28,11 +28,12 @@ use Rattle.command_model.specs.Bindings.{Operand, bound_cipher, bound_values, no
 use Rattle.command_model.specs.Reading.{own_file, values_file, script_file, taken, or_refused}
 use Rattle.command_model.specs.Plan.{run_of}
 use Rattle.command_model.specs.Plain.{Owner, Item, text, sealed, State, Stands, IsItem, IsSealed, same_owner, item_bound, owner_of, values_given, all_given, sealed_value, ran_script, ran}
+use Rattle.command_model.proofs.Standing.{text_at}
 use Rattle.command_stages.specs.Stages.{Says}
 use Rattle.command_stages.proofs.Ways.{says_taken}
 use Rattle.run_operands.specs.BoundFiles.{AreBound, IsBoundAt}
 use Rattle.run_operands.proofs.InOrder.{own_kind}
-use Rattle.key_commands.proofs.MadeItems.{content_at, belongs_wanted, text_at}
+use Rattle.key_commands.proofs.MadeItems.{content_at, belongs_wanted}
 use Rattle.key_commands.proofs.Owners.{same_owner_equal}
 use Rattle.bfv_commands.specs.RunStages.{AreSealed, IsRunOf}
 use Rattle.bfv_commands.proofs.InputNames.{binding_at, bound_at}

@@ -23,6 +23,7 @@ use key_commands::turn::turn;
 use outer_io::{Sink, SinkFault, Store};
 use std::alloc::Global;
 use text_commands::check::check;
+use text_commands::report::report;
 
 /// Does what the words ask for.
 ///
@@ -81,9 +82,9 @@ pub fn single<S: Store, O: Sink>(
         Some(form) => match run(alloc, form, words, store) {
             Ok(None) => Status::Done,
             Ok(Some(line)) => announce(out, &line),
-            Err(status) => report(out, words, status),
+            Err(status) => refuse(out, words, status),
         },
-        None => report(out, words, Status::Usage),
+        None => refuse(out, words, Status::Usage),
     }
 }
 
@@ -110,6 +111,7 @@ fn run<S: Store>(
         | Form::Relin
         | Form::Turn
         | Form::Encrypt
+        | Form::Report
         | Form::Run
         | Form::Decrypt => match write_out(alloc, form, words, store) {
             Ok(()) => Ok(None),
@@ -137,6 +139,7 @@ fn write_out<S: Store>(
         Form::Relin => relin(alloc, words, store),
         Form::Turn => turn(alloc, words, store),
         Form::Encrypt => encrypt(alloc, words, store),
+        Form::Report => report(alloc, words, store),
         Form::Run => run_script(alloc, words, store),
         Form::Decrypt => decrypt(alloc, words, store),
         Form::Check | Form::Batch => unreachable!(),
@@ -144,7 +147,7 @@ fn write_out<S: Store>(
 }
 
 /// Puts the line of a status, and answers it unless that put wanted memory.
-pub fn report<O: Sink>(out: &mut O, words: &[String], status: Status) -> Status
+pub fn refuse<O: Sink>(out: &mut O, words: &[String], status: Status) -> Status
     requires refused { status ≢ Status.Done }
     requires word { ForSome (parts_of status).word (λ word. word < length words.now) }
     ensures status { (result ≡ status) ⊎ (result ≡ Status.Memory) }

@@ -12,7 +12,7 @@ ghost use Rattle.command_model.specs.Batches.{BatchAnswered};
 ghost use Rattle.command_stages.specs.Stages.{Took};
 ghost use Rattle.bfv_commands.specs.Batching.{InOrder, AreSingle};
 
-use crate::answer::{report, single};
+use crate::answer::{refuse, single};
 use batch_text::{MAX_BATCH_BYTES, read_commands};
 use command_stages::{name_of, unread};
 use command_words::Status;
@@ -38,7 +38,7 @@ pub fn batch<S: Store, O: Sink>(
 {
     match read_batch(alloc, words, store) {
         Ok(commands) => run_all(alloc, &commands, store, out),
-        Err(status) => report(out, words, status),
+        Err(status) => refuse(out, words, status),
     }
 }
 

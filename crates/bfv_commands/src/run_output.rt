@@ -26,9 +26,8 @@ ghost use Rattle.bfv_commands.specs.RunStages.{AreMatched, AreOfKey, IsRunOf, Is
 use crate::execution::executed;
 use bound_num::Bound;
 use cipher_files::{Head, write_cipher};
-use command_stages::name_of;
+use command_stages::{name_of, write_status};
 use command_words::Status;
-use key_commands::write_status;
 use outer_io::Store;
 use run_operands::{BoundCipher, Operand, ciphers_in_order, first_key_id, plain_places};
 use script_text::Script;

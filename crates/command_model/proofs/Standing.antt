@@ -1,4 +1,4 @@
--- What files stand for after one of them was written.
+-- What files stand for, and after one of them was written.
 use Rattle.std.proofs.Common.{◌≡◌, ◌≢◌, ℕ, List, refl, sym, ◌∙◌, ap}
 use Rattle.std.specs.Prelude.{Bool, true, false, cond, Option, Some}
 use Rattle.std.specs.Str.{bytes_eq}
@@ -6,7 +6,11 @@ use Rattle.std.specs.FinMap as map
 use Rattle.std.proofs.lemmas.Slice.Eq.{bytes_eq-Decides}
 use Rattle.outer_io.specs.Store.{Files, file}
 use Rattle.outer_io.proofs.Names.{file_set_same, file_set_other}
-use Rattle.command_model.specs.Plain.{Item, State, Stands, IsItem, with_item}
+use Rattle.command_model.specs.Plain.{Item, text, State, Stands, IsItem, with_item}
+
+-- the file of a name that stands for a text has its bytes
+pub text_at : (files : Files) (state : State) (name bytes : List ℕ) → Stands files state → state name ≡ Some (text bytes) → file files name ≡ Some bytes
+text_at files state name bytes stands is = let held = stands.each name (text bytes) is in held.1.0 ∙ ap Some held.1.1
 
 item_after : (files : Files) (state : State) (out bytes : List ℕ) (item : Option Item) (name : List ℕ) (i : Item) → Stands files state
     → ((j : Item) → item ≡ Some j → IsItem j bytes) → (b : Bool) → bytes_eq name out ≡ b → cond b item (state name) ≡ Some i

@@ -1,5 +1,6 @@
 pub mod Bindings
 pub mod Reading
+pub mod Report
 pub mod Plan
 pub mod Answers
 pub mod Plain

@@ -28,12 +28,16 @@ use Rattle.script_text.specs.Scripts.{Script, cipher_inputs}
 use Rattle.script_text.specs.Grammar.{script_of}
 use Rattle.script_text.specs.Value.{value_of}
 use Rattle.script_text.specs.Values.{printed_values}
+use Rattle.noise_check.specs.declared.verdict.Verdict.{Verdict}
+use Rattle.noise_check.specs.declared.verdict.Verdict.TheVariants.{Accepted, TooNoisy}
+use Rattle.noise_check.specs.Verdicts.{fresh_bounds, verdict_of}
 use Rattle.command_words.specs.Step.{step_named}
 use Rattle.command_words.specs.Form.{form_of, binding_file}
 use Rattle.command_words.specs.Line.{word_at}
 use Rattle.command_words.specs.declared.form.Form.{Form}
 use Rattle.command_words.specs.declared.form.Form.TheVariants as form
 use Rattle.command_model.specs.Bindings.{bound_names, place_bound}
+use Rattle.command_model.specs.Report.{report_text}
 use Rattle.command_model.specs.Plan.{seed_word, out_name, element_of}
 
 -- whose secret: the set, the key id, and the n coefficients as words, with 2 for -1
@@ -135,6 +139,16 @@ abbrev pub ran : List (List ℕ) → State → Option Item → Option Item
 ran words state (Some (text bytes)) = option_and_then (ran_script words state) (result_ok (script_of bytes))
 ran words state _ = None
 
+-- a script that is accepted has a report
+abbrev pub report_by : Script → Verdict → Option Item
+report_by script (Accepted bounds) = Some (text (report_text script bounds))
+report_by script (TooNoisy line bound limit) = None
+
+-- a text, as a script, is reported on with fresh bounds for all its cipher inputs
+abbrev pub reported : Option Item → Option Item
+reported (Some (text bytes)) = option_and_then (λ script. report_by script (verdict_of script (fresh_bounds script))) (result_ok (script_of bytes))
+reported _ = None
+
 -- the item of the file OUT; a command without one makes none
 abbrev pub item_made : Form → List (List ℕ) → State → Option Item
 item_made form.Secret words state = option_and_then (λ set. drawn set (state (word_at words 2))) (set_named (word_at words 1))
@@ -145,6 +159,7 @@ item_made form.Encrypt words state = sealed_under (state (word_at words 1)) (sta
 item_made form.Run words state = ran words state (state (word_at words 1))
 item_made form.Decrypt words state = opened (state (word_at words 1)) (state (word_at words 2))
 item_made form.Check words state = None
+item_made form.Report words state = reported (state (word_at words 1))
 item_made form.Batch words state = None
 
 -- the state with the item of this name, where one is named

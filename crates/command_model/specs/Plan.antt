@@ -34,7 +34,8 @@ use Rattle.command_words.specs.declared.step.Step.TheVariants.{Left, Swap}
 use Rattle.command_words.specs.declared.status.Status.{Status}
 use Rattle.command_words.specs.declared.status.Status.TheVariants.{Usage, SetMismatch, KeyMismatch, BadScript, TooNoisy, Binding, NoSpecial, BadStep, PartsMismatch}
 use Rattle.command_model.specs.Bindings.{bindings_of, bound_names, input_named, kind_at, fault_of_bindings, Operand, bound_cipher, bound_values, first_key_id, Run, ciphers_of, plains_of}
-use Rattle.command_model.specs.Reading.{Output, file_with, sealing, running, values, accepted, commands, own_file, seed_file, values_file, script_file, batch_file, Reading, read, read_word, refused, done, unless, outcome}
+use Rattle.command_model.specs.Report.{report_text}
+use Rattle.command_model.specs.Reading.{Output, file_with, sealing, running, values, accepted, reporting, commands, own_file, seed_file, values_file, script_file, batch_file, Reading, read, read_word, refused, done, unless, outcome}
 
 -- ---- what doesn't match
 
@@ -123,22 +124,34 @@ reading_of_decrypt words =
 abbrev pub bound_at : List Bound → ℕ → Bound
 bound_at bounds register = unwrap_or (slice_get bounds register) (record { m = 0; e = 0 })
 
--- an accepted script leads to an output by the bound of its own output
+-- an accepted script leads to an output by the bounds of its registers
+abbrev pub judged_by : Verdict → (List Bound → Output) → Reading
+judged_by (verdict.Accepted bounds) output = done (output bounds)
+judged_by (verdict.TooNoisy line bound limit) output = refused (TooNoisy line bound limit)
+
+-- or by the bound of its own output alone
 abbrev pub judged : Script → Verdict → (Bound → Output) → Reading
-judged script (verdict.Accepted bounds) output = done (output (bound_at bounds script.output))
-judged script (verdict.TooNoisy line bound limit) output = refused (TooNoisy line bound limit)
+judged script given output = judged_by given (λ bounds. output (bound_at bounds script.output))
 
 -- a script that switches keys is refused where its set has no special modulus
 abbrev pub no_special : Script → Option Status
 no_special script = if nat_lt 0 (length (needs_of script)) && is_none (special_of script.set) then Some (NoSpecial script.set) else None
 
--- a script is checked with fresh bounds for all its cipher inputs
+-- a script is judged with fresh bounds for all its cipher inputs
+abbrev pub judged_fresh : Script → (List Bound → Output) → Reading
+judged_fresh script output = unless (no_special script) (judged_by (verdict_of script (fresh_bounds script)) output)
+
+-- the bound of a script's output is what a check is for
 abbrev pub checked : Script → Reading
-checked script = unless (no_special script) (judged script (verdict_of script (fresh_bounds script)) accepted)
+checked script = judged_fresh script (λ bounds. accepted (bound_at bounds script.output))
 
 -- `check SCRIPT`
 abbrev pub reading_of_check : List (List ℕ) → Reading
 reading_of_check words = read_word words 1 script_file checked
+
+-- `report SCRIPT OUT`
+abbrev pub reading_of_report : List (List ℕ) → Reading
+reading_of_report words = read_word words 1 script_file (λ script. judged_fresh script (reporting script))
 
 -- ---- `run`
 
@@ -229,6 +242,7 @@ reading_of_form (Some form.Encrypt) words = reading_of_encrypt words
 reading_of_form (Some form.Run) words = reading_of_run words
 reading_of_form (Some form.Decrypt) words = reading_of_decrypt words
 reading_of_form (Some form.Check) words = reading_of_check words
+reading_of_form (Some form.Report) words = reading_of_report words
 reading_of_form (Some form.Batch) words = reading_of_batch words
 
 -- what the words of a command make it read
@@ -282,6 +296,7 @@ IsWritten (sealing public listed seed) bytes = IsFreshCipher public listed seed 
 IsWritten (running run) bytes = IsRunFile run bytes
 IsWritten (values secret cipher) bytes = IsValuesText cipher.set bytes
 IsWritten (accepted bound) bytes = bytes ≡ accepted_text bound
+IsWritten (reporting script bounds) bytes = bytes ≡ report_text script bounds
 IsWritten (commands listed) bytes = ⊥
 
 -- the name of the file OUT, where the form has one

@@ -85,6 +85,8 @@ pub data Output : Type 0 where
   values : (secret cipher : FileContent) → Output
   -- the noise bound of what an accepted script puts out
   accepted : (bound : Bound) → Output
+  -- the report on an accepted script, whose registers have these bounds
+  reporting : (script : Script) (bounds : List Bound) → Output
   -- the commands of a batch, each with its words, which are then run
   commands : (listed : List (List (List ℕ))) → Output
 

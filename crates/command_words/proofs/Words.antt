@@ -14,7 +14,7 @@ use Rattle.command_words.specs.Step.{step_named}
 use Rattle.command_words.specs.Form.{has_empty_word, form_of, form_of_three, form_of_four, form_of_full_words, is_binding, is_run, HasCount, IsOperand}
 use Rattle.command_words.specs.Line.{text_about, word_at}
 use Rattle.command_words.specs.declared.form.Form.{Form}
-use Rattle.command_words.specs.declared.form.Form.TheVariants.{Secret, Public, Relin, Turn, Encrypt, Run, Decrypt, Check, Batch}
+use Rattle.command_words.specs.declared.form.Form.TheVariants.{Secret, Public, Relin, Turn, Encrypt, Run, Decrypt, Check, Report, Batch}
 use Rattle.command_words.specs.declared.step.Step.{Step}
 
 -- one of the strings passes a test of bytes exactly where one of the words does
@@ -76,6 +76,7 @@ operand_below Run word count is (inr binding) = binding.1
 operand_below Decrypt word count is (inl first) = omega arith
 operand_below Decrypt word count is (inr second) = omega arith
 operand_below Check word count is first = omega arith
+operand_below Report word count is first = omega arith
 operand_below Batch word count is first = omega arith
 
 -- a text about a word begins with the text
@@ -109,6 +110,7 @@ full_words_say : (words : List (List ℕ)) (form : Form) → form_of_full_words 
 unfolding form_of_three form_of_four
 full_words_say (command ∷ first ∷ []) form is =
     by_test (bytes_eq command (codes "check")) (λ _. here _ _ Check tt) (by_test (bytes_eq command (codes "batch")) (λ named. here _ _ Batch named) nowhere) is
+full_words_say (command ∷ first ∷ second ∷ []) form is = by_test (bytes_eq command (codes "report")) (λ _. here _ _ Report tt) nowhere is
 full_words_say (command ∷ first ∷ second ∷ third ∷ []) form is =
     by_test (bytes_eq command (codes "secret")) (λ _. by_test (is_some (set_named first)) (λ some. here _ _ Secret (is_there (set_named first) some)) nowhere)
     (by_test (bytes_eq command (codes "public")) (λ _. here _ _ Public tt)

@@ -6,7 +6,7 @@ use Rattle.line_text.specs.Names.{is_name}
 use Rattle.set_table.specs.Sets.{set_named}
 use Rattle.command_words.specs.Step.{step_named}
 use Rattle.command_words.specs.declared.form.Form.{Form}
-use Rattle.command_words.specs.declared.form.Form.TheVariants.{Secret, Public, Relin, Turn, Encrypt, Run, Decrypt, Check, Batch}
+use Rattle.command_words.specs.declared.form.Form.TheVariants.{Secret, Public, Relin, Turn, Encrypt, Run, Decrypt, Check, Report, Batch}
 
 -- one of the words is empty
 abbrev pub has_empty_word : List (List ℕ) → Bool
@@ -15,6 +15,10 @@ has_empty_word words = list_any (λ word. length word == 0) words
 -- the form of one word behind a command's name
 abbrev pub form_of_one : List ℕ → Option Form
 form_of_one command = if bytes_eq command (codes "check") then Some Check else (if bytes_eq command (codes "batch") then Some Batch else None)
+
+-- the form of two words behind a command's name
+abbrev pub form_of_two : List ℕ → Option Form
+form_of_two command = if bytes_eq command (codes "report") then Some Report else None
 
 -- the form of three words behind a command's name. A secret is made for a set that is named.
 unfoldable pub form_of_three : List ℕ → List ℕ → Option Form
@@ -33,6 +37,7 @@ form_of_four command second =
 -- the form that words have by the first of them and by their number, where none is empty
 abbrev pub form_of_full_words : List (List ℕ) → Option Form
 form_of_full_words (command ∷ first ∷ []) = form_of_one command
+form_of_full_words (command ∷ first ∷ second ∷ []) = form_of_two command
 form_of_full_words (command ∷ first ∷ second ∷ third ∷ []) = form_of_three command first
 form_of_full_words (command ∷ first ∷ second ∷ third ∷ fourth ∷ []) = form_of_four command second
 form_of_full_words _ = None
@@ -67,6 +72,7 @@ abbrev pub HasCount : Form → ℕ → Type 0
 HasCount Encrypt count = count ≡ 5
 HasCount Turn count = count ≡ 5
 HasCount Check count = count ≡ 2
+HasCount Report count = count ≡ 3
 HasCount Batch count = count ≡ 2
 HasCount Run count = (3 ≤ count) × (count ≤ 1000)
 HasCount _ count = count ≡ 4
@@ -81,6 +87,7 @@ IsOperand Encrypt count word = (word ≡ 1) ⊎ (word ≡ 2) ⊎ (word ≡ 3)
 IsOperand Run count word = (word ≡ 1) ⊎ ((3 ≤ word) × (word < count))
 IsOperand Decrypt count word = (word ≡ 1) ⊎ (word ≡ 2)
 IsOperand Check count word = word ≡ 1
+IsOperand Report count word = word ≡ 1
 IsOperand Batch count word = word ≡ 1
 
 -- the number of the word that names the file OUT, where a form writes one
@@ -88,6 +95,7 @@ abbrev pub out_word : Form → Option ℕ
 out_word Encrypt = Some 4
 out_word Turn = Some 4
 out_word Run = Some 2
+out_word Report = Some 2
 out_word Check = None
 out_word Batch = None
 out_word _ = Some 3

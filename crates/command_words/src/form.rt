@@ -30,6 +30,8 @@ pub enum Form {
     Decrypt,
     /// `check SCRIPT` prints the noise bound of what a script puts out.
     Check,
+    /// `report SCRIPT OUT` writes the noise bounds of all registers of a script.
+    Report,
     /// `batch FILE` runs the commands of a text in order.
     Batch,
 }
@@ -104,6 +106,7 @@ fn form_of_full_words(words: &[String]) -> Option<Form>
 {
     match words {
         [command, _] => form_of_one(command.as_str()),
+        [command, _, _] => form_of_two(command.as_str()),
         [command, first, _, _] => form_of_three(command.as_str(), first.as_str()),
         [command, _, second, _, _] => form_of_four(command.as_str(), second.as_str()),
         _ => None,
@@ -119,6 +122,16 @@ fn form_of_one(command: &str) -> Option<Form>
     }
     if command == "batch" {
         return Some(Form::Batch);
+    }
+    None
+}
+
+fn form_of_two(command: &str) -> Option<Form>
+    ensures form { result ≡ form.form_of_two command.now }
+    ensures count { IfSome result (λ f. form.HasCount f 3) }
+{
+    if command == "report" {
+        return Some(Form::Report);
     }
     None
 }

@@ -28,6 +28,7 @@ use Rattle.command_words.specs.declared.status.Status.TheVariants.{BadValues, Sh
 use Rattle.command_model.specs.Reading.{own_file, seed_file, values_file, said_by, taken, or_refused, status_of}
 use Rattle.command_model.specs.Plan.{seed_word, IsFreshCipher}
 use Rattle.command_model.specs.Plain.{Owner, Item, text, secret_of, public_key_of, sealed, State, Stands, IsItem, BelongsTo, IsSecretOf, IsPublicKeyFor, IsSealed, drawn_owner, drawn, published, sealed_if_read, sealed_under}
+use Rattle.command_model.proofs.Standing.{text_at}
 use Rattle.key_commands.proofs.FreshBounds.{fresh_bound_fits}
 
 -- ---- operands
@@ -65,10 +66,6 @@ owner_of content secret = record { set = content.set; key_id = content.key_id; s
 pub owner_of_content : (owner : Owner) (kind : FileKind) (content : FileContent) → BelongsTo owner kind content → owner ≡ owner_of content owner.secret
 owner_of_content owner kind content belongs = sym (ap (λ (set : SetName). record { set = set; key_id = content.key_id; secret = owner.secret }) belongs.of_set
     ∙ ap (λ (id : List ℕ). record { set = owner.set; key_id = id; secret = owner.secret }) belongs.of_key)
-
--- the file of a name that stands for a text has its bytes
-pub text_at : (files : Files) (state : State) (name bytes : List ℕ) → Stands files state → state name ≡ Some (text bytes) → file files name ≡ Some bytes
-text_at files state name bytes stands is = let held = stands.each name (text bytes) is in held.1.0 ∙ ap Some held.1.1
 
 -- ---- a drawn secret
 -- the seed that was taken from a text has the stream of the text

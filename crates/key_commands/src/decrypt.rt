@@ -20,10 +20,9 @@ ghost use Rattle.command_stages.specs.Stages.{Made};
 ghost use Rattle.key_commands.specs.Decrypted.{IsDecryption};
 
 use crate::reread::{cipher_again, secret_again};
-use crate::writing::write_status;
 use bfv_params::{Cipher, Context, Secret};
 use cipher_files::{Head, Wanted};
-use command_stages::{match_heads, name_of, scan_operand};
+use command_stages::{match_heads, name_of, scan_operand, write_status};
 use command_words::Status;
 use outer_io::{Store, write_file};
 use rns_poly::PolyBuf;

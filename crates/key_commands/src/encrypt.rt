@@ -17,10 +17,11 @@ ghost use Rattle.command_stages.specs.Stages.{Made, Wrote};
 ghost use Rattle.key_commands.specs.Encrypted.{IsSealing};
 
 use crate::reread::public_again;
-use crate::writing::write_status;
 use bfv_params::{Cipher, Context, Public};
 use cipher_files::{Head, Wanted, write_cipher};
-use command_stages::{SEED_BYTES, name_of, read_seed, read_values_operand, scan_operand};
+use command_stages::{
+    SEED_BYTES, name_of, read_seed, read_values_operand, scan_operand, write_status,
+};
 use command_words::Status;
 use noise_check::fresh;
 use outer_io::Store;

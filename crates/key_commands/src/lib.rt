@@ -9,7 +9,5 @@ mod reread;
 pub mod secret;
 mod switching;
 pub mod turn;
-mod writing;
 
 pub use reread::{cipher_again, public_again, secret_again};
-pub use writing::write_status;

@@ -18,10 +18,9 @@ ghost use Rattle.command_stages.specs.Operands.{HasContent};
 ghost use Rattle.command_stages.specs.Stages.{Made, Wrote};
 
 use crate::reread::secret_again;
-use crate::writing::write_status;
 use bfv_params::{Context, Public, Secret};
 use cipher_files::{Head, Wanted, write_public};
-use command_stages::{SEED_BYTES, name_of, read_seed, scan_operand};
+use command_stages::{SEED_BYTES, name_of, read_seed, scan_operand, write_status};
 use command_words::Status;
 use outer_io::Store;
 use rand_chacha::ChaCha20Rng;

@@ -13,10 +13,9 @@ ghost use Rattle.command_model.specs.Commanded.{Commanded};
 ghost use Rattle.command_model.specs.Plan as plan;
 ghost use Rattle.command_stages.specs.Stages.{Wrote};
 
-use crate::writing::write_status;
 use bfv_params::{Context, Secret};
 use cipher_files::{Head, write_secret};
-use command_stages::{SEED_BYTES, name_of, read_seed};
+use command_stages::{SEED_BYTES, name_of, read_seed, write_status};
 use command_words::Status;
 use outer_io::Store;
 use rand_chacha::ChaCha20Rng;

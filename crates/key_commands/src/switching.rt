@@ -20,10 +20,9 @@ ghost use Rattle.command_stages.specs.Stages.{Made, Wrote};
 ghost use Rattle.key_commands.specs.SwitchKeys.{IsRoom, content_drawn};
 
 use crate::reread::secret_again;
-use crate::writing::write_status;
 use bfv_params::{Context, Secret};
 use cipher_files::{Head, KeyWriter};
-use command_stages::SEED_BYTES;
+use command_stages::{SEED_BYTES, write_status};
 use command_words::Status;
 use key_switch::{make_digit, relin_source, turn_source};
 use outer_io::{Store, StoreFault};

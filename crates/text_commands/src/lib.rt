@@ -1,6 +1,8 @@
-//! The commands that answer with a text about a script: `check`.
+//! The commands that answer with a text about a script: `check` and `report`.
 #![tactic(auto)]
 
 pub mod check;
+mod judge;
+pub mod report;
 
-pub use check::output_bound;
+pub use judge::output_bound;

@@ -14,6 +14,8 @@ mod files;
 #[cfg(test)]
 mod keys;
 #[cfg(test)]
+mod reports;
+#[cfg(test)]
 mod runs;
 #[cfg(test)]
 mod switch_keys;

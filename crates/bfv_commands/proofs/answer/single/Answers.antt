@@ -11,8 +11,8 @@ use Rattle.command_stages.specs.Stages.{Announced}
 use Rattle.bfv_commands.proofs.Answering.{answered_line, answered_stopped, answered_usage, answered_written}
 use Rattle.bfv_commands.proofs.answer.single.Goals as goal
 
-pub report-requires-clause-word : goal.report-requires-clause-word
-report-requires-clause-word g c = λ word at.
+pub refuse-requires-clause-word : goal.refuse-requires-clause-word
+refuse-requires-clause-word g c = λ word at.
     let words = map string_bytes c.args.words.now in
     let form : form_of words ≡ Some c.in-Some.form = search rules in
     let named = subst (λ form. IsOperandOf form (length words) word) form (c.in-Err.ensures.err.caused.word word at) in
@@ -43,13 +43,13 @@ returns-in-Err g c =
     let form : form_of words ≡ Some c.in-Some.form = search rules in
     let sink = g.O.Sink.state in
     let old : World = record { store = g.S.Store.state c.args.store.now; sink = sink c.args.out.now } in
-    let new : World = record { store = g.S.Store.state c.run.new.store; sink = sink c.report.new.out } in
-    answered_stopped words c.in-Some.form old new c.in-Err.status c.report.result form c.requires.idle c.in-Err.ensures c.report.ensures.status (c.report.ensures.printed old.store.files)
-    c.report.ensures.puts
+    let new : World = record { store = g.S.Store.state c.run.new.store; sink = sink c.refuse.new.out } in
+    answered_stopped words c.in-Some.form old new c.in-Err.status c.refuse.result form c.requires.idle c.in-Err.ensures c.refuse.ensures.status (c.refuse.ensures.printed old.store.files)
+    c.refuse.ensures.puts
 
 pub returns-in-None : goal.returns-in-None
 returns-in-None g c =
     let store = g.S.Store.state c.args.store.now in
-    let put = c.report-in-None in
+    let put = c.refuse-in-None in
     answered_usage (map string_bytes c.args.words.now) store (g.O.Sink.state c.args.out.now) (g.O.Sink.state put.new.out) put.result (search rules) c.requires.idle
     put.ensures.status (put.ensures.printed store.files) put.ensures.puts

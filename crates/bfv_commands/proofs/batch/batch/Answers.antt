@@ -35,7 +35,7 @@ returns-in-Err g c =
     let store = g.S.Store.state in
     let sink = g.O.Sink.state in
     let old : World = record { store = store c.args.store.now; sink = sink c.args.out.now } in
-    let new : World = record { store = store c.read_batch.new.store; sink = sink c.report.new.out } in
+    let new : World = record { store = store c.read_batch.new.store; sink = sink c.refuse.new.out } in
     let took = c.in-Err.ensures.took in
-    untaken (map string_bytes c.args.words.now) old new c.in-Err.status c.report.result c.requires.form c.requires.idle took.keeps took.err c.report.ensures.status
-    (c.report.ensures.printed old.store.files) c.report.ensures.puts
+    untaken (map string_bytes c.args.words.now) old new c.in-Err.status c.refuse.result c.requires.form c.requires.idle took.keeps took.err c.refuse.ensures.status
+    (c.refuse.ensures.printed old.store.files) c.refuse.ensures.puts

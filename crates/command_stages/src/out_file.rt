@@ -1,4 +1,4 @@
-// The heads of the files that commands write, and what is answered where a file can't be written.
+// What is answered where the file OUT can't be written.
 ghost use Rattle.std.specs.Prelude.{◌≡◌};
 ghost use Rattle.command_stages.specs.Stages as stages;
 
