@@ -7,6 +7,9 @@ pub mod KeyNeeds
 pub mod Premises
 pub mod Live
 pub mod LiveTests
+pub mod Ending
+pub mod Counting
+pub mod Placing
 pub mod Inputs
 pub mod Plans
 pub mod Running

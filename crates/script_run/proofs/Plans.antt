@@ -12,23 +12,6 @@ use Rattle.script_run.specs.Registers.{IsPlan, input_count}
 use Rattle.script_run.specs.Places.{cipher_at}
 use Rattle.script_run.specs.Workspaces.{WorkspaceValue, IsWorkspace, MadeFor, SameShape, input_of, whole_context}
 
--- the plan in which each register has a place of its own
-pub own_plan : (script : Script) (plan : List ℕ) (registers count : ℕ) → registers ≡ input_count script + length script.steps → length plan ≡ registers
-    → ((r : ℕ) → r < registers → slice_index plan r ≡ r) → count ≡ registers + 1 → IsPlan script plan count
-own_plan script plan registers count all size each more = record {
-  size = size ∙ all;
-  within = λ r planned. let own = each r (omega arith) in omega arith;
-  apart = λ i r other within live live_other equal.
-      let defined = live.defined in
-      let defined_other = live_other.defined in
-      sym (each r (omega arith)) ∙ equal ∙ each other (omega arith);
-  result = λ i r below live equal.
-      let defined = live.defined in
-      let here = each r (omega arith) in
-      let there = each (input_count script + i) (omega arith) in
-      omega arith;
-}
-
 -- an input has the place, or none has it
 input_at : (inputs : ℕ) (plan : List ℕ) (p : ℕ) → ((r : ℕ) × (r < inputs) × (slice_index plan r ≡ p)) ⊎ ((r : ℕ) → r < inputs → slice_index plan r ≢ p)
 input_at zero plan p = inr (λ r below equal. absurd (omega (arith, below)))

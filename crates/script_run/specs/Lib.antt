@@ -1,4 +1,5 @@
 pub mod Registers
+pub mod Ends
 pub mod Places
 pub mod Workspaces
 pub mod Runs

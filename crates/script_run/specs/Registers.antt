@@ -1,6 +1,7 @@
 -- When a register of a script is live, and plans that give each register a place.
-use Rattle.std.specs.Prelude.{◌≡◌, ◌≢◌, ◌⊎◌, ℕ, ◌+◌, ◌<◌, ◌≤◌, Bool, ◌||◌, ◌&&◌, ◌==◌, nat_lt, List, drop, length, slice_index, slice_get, Some, Contains}
-use Rattle.std.specs.List.{list_any}
+use Rattle.std.specs.Prelude.{◌≡◌, ◌≢◌, ◌⊎◌, ℕ, ◌+◌, ◌<◌, ◌≤◌, max, Bool, ◌||◌, ◌&&◌, ◌==◌, nat_lt, List, drop, fold, length, slice_index, slice_get, Some, Contains}
+use Rattle.std.specs.List.{count_by, list_any, range_with_len}
+use Rattle.ring_law.specs.Sums.{values_below}
 use Rattle.script_text.specs.declared.script.Step.{Step}
 use Rattle.script_text.specs.Scripts.{Script, cipher_inputs, operands_of}
 
@@ -25,6 +26,14 @@ is_read_from script i r = list_any (λ step. list_any (λ operand. r == operand)
 -- whether the register is live before step i: a test, so that live registers can be counted
 abbrev pub is_live : Script → ℕ → ℕ → Bool
 is_live script i r = nat_lt r (input_count script + i) && ((i == 0) || ((r == script.output) || is_read_from script i r))
+
+-- how many registers are live before step i, of those that were defined before
+abbrev pub live_count : Script → ℕ → ℕ
+live_count script i = count_by (is_live script i) (range_with_len 0 (input_count script + i))
+
+-- the greatest number of registers that are live at one moment, which is before a step or after the last
+abbrev pub most_live : Script → ℕ
+most_live script = fold max 0 (values_below (length script.steps + 1) (live_count script))
 
 -- A plan gives each register one of `count` places. No two registers that are live at one moment have the same, and the result of a
 -- step has the place of no register that is live before that step.

@@ -6,6 +6,7 @@
 
 mod key_needs;
 mod laws;
+mod planning;
 mod run;
 mod step;
 #[cfg(test)]

@@ -9,6 +9,7 @@ ghost use Rattle.bfv_params.specs.Ciphers.{IsCipherOf};
 ghost use Rattle.script_run.specs.Registers.{input_count};
 ghost use Rattle.script_run.specs.Workspaces.{MadeFor, SameShape, input_of};
 
+use crate::planning::make_plan;
 use crate::{Workspace, first_needing_key};
 use bfv_params::{Cipher, Context};
 use key_switch::{KeyFault, Keys};
@@ -202,6 +203,46 @@ fn check_run<const N: usize>(
     Ok(())
 }
 
+/// A script that doubles three times.
+const DOUBLINGS: &[u8] = b"set toy16\ncipher a\nb = add a a\nc = add b b\nd = add c c\noutput d\n";
+
+/// A script of so many steps, each of which adds the last two registers.
+fn sums(alloc: Global, steps: usize) -> Result<String, Fail> {
+    let mut text = String::new(alloc);
+    text.push_str("set toy16\ncipher r0\nr1 = add r0 r0\n")?;
+    for i in 2..steps.saturating_add(1) {
+        let line = format!(in alloc; "r{} = add r{} r{}\n", i, i - 1, i - 2)?;
+        text.push_str(line.as_str())?;
+    }
+    let output = format!(in alloc; "output r{}\n", steps)?;
+    text.push_str(output.as_str())?;
+    Ok(text)
+}
+
+/// Runs a script of one input in so many places.
+fn check_places<const N: usize>(
+    rt: &impl Abort,
+    alloc: Global,
+    text: &[u8],
+    places: usize,
+    expected: Expected,
+) -> Result<(), Fail>
+    requires { N ≤ 32768 }
+{
+    let script = parse(alloc, text)?;
+    let set = script.set();
+    assert_eq!(rt; set.degree(), N);
+    assert_eq!(rt; script.ciphers(), 1);
+    assert_eq!(rt; script.inputs(), 1);
+    check_keyless(rt, &script);
+    assert_eq!(rt; make_plan(alloc, &script)?.count, places);
+    let ctx = Context::<N>::new(alloc, set)?;
+    let mut space = Workspace::<N>::new(alloc, &script, &ctx)?;
+    fill_input(&ctx, &mut space, 0, 1234567891);
+    check_result(rt, &ctx, &script, &mut space, expected);
+    Ok(())
+}
+
 #[test]
 fn a_linear_script(rt: HostRuntime) -> Result<(), Fail> {
     let expected = Expected {
@@ -218,4 +259,23 @@ fn a_script_of_products(rt: HostRuntime) -> Result<(), Fail> {
         sum: 0x42df_a9fe_7004_6c48,
     };
     check_run::<16>(&rt, rt.alloc(), PRODUCTS, expected)
+}
+
+#[test]
+fn three_doublings_in_two_places(rt: HostRuntime) -> Result<(), Fail> {
+    let expected = Expected {
+        parts: 2,
+        sum: 0x45a5_0aba_e527_cfc0,
+    };
+    check_places::<16>(&rt, rt.alloc(), DOUBLINGS, 2, expected)
+}
+
+#[test]
+fn thousands_of_steps_in_three_places(rt: HostRuntime) -> Result<(), Fail> {
+    let text = sums(rt.alloc(), 4096)?;
+    let expected = Expected {
+        parts: 2,
+        sum: 0xa9d6_5d02_95e7_4c96,
+    };
+    check_places::<16>(&rt, rt.alloc(), text.as_bytes(), 3, expected)
 }

@@ -11,13 +11,14 @@ ghost use Rattle.bfv_params.specs.Values.{zero_cipher};
 ghost use Rattle.bfv_params.specs.contracts.cipher.Cipher.{the_row as cipher_row};
 ghost use Rattle.bfv_params.specs.Ciphers.{IsCipherOf};
 ghost use Rattle.key_switch.specs.Providers.{Digits, FaultCause, IsThere, Keeps};
-ghost use Rattle.script_run.specs.Registers.{input_count};
+ghost use Rattle.script_run.specs.Registers.{input_count, most_live};
 ghost use Rattle.script_run.specs.Places.{cipher_at};
 ghost use Rattle.script_run.specs.Workspaces.{MadeFor, SameShape, input_of, output_of};
 ghost use Rattle.script_run.specs.Runs.{Carries, InputsCarry};
 ghost use Rattle.script_run.specs.Premises.{RunPremise};
 ghost use Rattle.script_run.specs.contracts.workspace.Workspace.{the_row};
 
+use crate::planning::make_plan;
 use crate::run::run;
 use bfv_params::{Cipher, Context};
 use key_switch::{KeyFault, Keys};
@@ -54,23 +55,24 @@ impl<const N: usize> Model for Workspace<N> {
 
 impl<const N: usize> Workspace<N> {
     /// A workspace for a script, with all the memory that a run takes: a zero cipher for each
-    /// register and one more, and places for the plain inputs. The error is want of memory.
+    /// register that is live at one moment, at the most, and one more, and places for the plain
+    /// inputs. The error is want of memory.
     pub fn new(alloc: Global, script: &Script, ctx: &Context<N>) -> Result<Workspace<N>, AllocError>
         requires same_set { script.now.set ≡ (ctx.now).set }
         requires level { (ctx.now).level ≡ length (data_of (ctx.now).set) }
         ensures made { IfOk result (MadeFor script.now) }
-        ensures count { IfOk result (λ w. length w.places ≡ input_count script.now + length script.now.steps + 1) }
+        ensures count { IfOk result (λ w. length w.places ≡ most_live script.now + 1) }
         ensures input_count { IfOk result (λ w. w.inputs ≡ input_count script.now) }
         ensures inputs { IfOk result (λ w. (r : ℕ) → r < w.inputs → input_of w r ≡ zero_cipher N (ctx.now).set (ctx.now).level) }
         ensures not_done { IfOk result (λ w. w.done ≡ false) }
     {
         let inputs = script.ciphers();
-        let registers = inputs + script.steps();
+        let plan = make_plan(alloc, script)?;
         Ok(Workspace {
             set: ctx.set(),
             inputs,
-            plan: own_places(alloc, registers)?,
-            ciphers: zero_ciphers(alloc, ctx, registers + 1)?,
+            plan: plan.places,
+            ciphers: zero_ciphers(alloc, ctx, plan.count)?,
             plains: vec![in alloc; [0; N]; script.inputs() - inputs]?,
             row: Box::new(alloc, [0; N])?,
             scratch: PolyBuf::new(alloc, ctx.scratch_rows())?,
@@ -157,18 +159,6 @@ impl<const N: usize> Workspace<N> {
     {
         &self.ciphers[self.place]
     }
-}
-
-/// A place of its own for each register.
-fn own_places(alloc: Global, registers: usize) -> Result<Vec<usize>, AllocError>
-    ensures count { IfOk result (λ plan. length plan.items ≡ registers) }
-    ensures each { IfOk result (λ plan. (r : ℕ) → r < registers → slice_index plan.items r ≡ r) }
-{
-    let mut plan = Vec::new(alloc);
-    for register in 0..registers {
-        plan.push(register)?;
-    }
-    Ok(plan)
 }
 
 /// This many zero ciphers.
